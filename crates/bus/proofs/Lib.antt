@@ -1,0 +1,7 @@
+pub mod Tests
+pub mod Lists
+pub mod Number
+pub mod Width
+pub mod Value
+pub mod Signed
+pub mod Maps

@@ -1,0 +1,62 @@
+-- Laws of lists: an element and a search of the first n elements, and a list that takes the place of another's head.
+-- Assumes nothing.
+use mathlib.Core.Path.{_≡_, refl, sym, ap, _∙_}
+use mathlib.Core.Bool.{Bool, true, false, cond}
+use mathlib.Core.List.{List, [], _∷_, _++_, append-nil}
+use mathlib.Core.Option.{none, some}
+use Prim.Native.Nat.{ℕ, zero, suc, _+_, _≤_, _<_}
+use native.Mathlib.Nat.{le-of-suc-le-suc, not-suc-le-zero, le-of-lt}
+use native.Mathlib.Numerals.{add-one}
+use native.Mathlib.Omega.{arith}
+use lib.ListN.{length, getD, getElem?, set, take, drop, drop-of-length-le, length-take}
+use lib.Seq.{take-all, take-suc, drop-cons, set-at, append-snoc, length-take-le, getD-take}
+use Rattle.bus.specs.Maps.{firstWith}
+
+module _ {A : Type 0} where
+  pub entry-in : (xs : List A) (n i : ℕ) (d : A) → i < n → n ≤ length xs → some (getD xs i d) ≡ getElem? (take n xs) i
+  entry-in xs zero i d h k = absurd (not-suc-le-zero h)
+  entry-in [] (suc n) i d h k = absurd (not-suc-le-zero k)
+  entry-in (x ∷ xs) (suc n) zero d h k = refl
+  entry-in (x ∷ xs) (suc n) (suc i) d h k = entry-in xs n i d (le-of-suc-le-suc h) (le-of-suc-le-suc k)
+
+  pub entry-out : (xs : List A) (n i : ℕ) → n ≤ i → none ≡ getElem? (take n xs) i
+  entry-out xs zero i h = refl
+  entry-out [] (suc n) i h = refl
+  entry-out (x ∷ xs) (suc n) zero h = absurd (not-suc-le-zero h)
+  entry-out (x ∷ xs) (suc n) (suc i) h = entry-out xs n i (le-of-suc-le-suc h)
+
+  -- a search of the first n elements, from element i on
+  module _ (p : A → Bool) (xs : List A) (n i : ℕ) (d : A) (fits : n ≤ length xs) where
+    rest : i < n → drop i (take n xs) ≡ getD xs i d ∷ drop (i + 1) (take n xs)
+    rest h =
+        drop-cons (take n xs) i d (rw (length-take-le n xs fits) h)
+        ∙ rw (getD-take n xs i d h, add-one)
+
+    pub found : i < n → p (getD xs i d) ≡ true → firstWith p (drop i (take n xs)) ≡ some (getD xs i d)
+    unfolding firstWith
+    found h e = rw (rest h, e)
+
+    pub passed : i < n → p (getD xs i d) ≡ false → firstWith p (drop i (take n xs)) ≡ firstWith p (drop (i + 1) (take n xs))
+    unfolding firstWith
+    passed h e = rw (rest h, e)
+
+    pub ended : n ≤ i → firstWith p (drop i (take n xs)) ≡ none
+    unfolding firstWith
+    ended h = rw (drop-of-length-le (take n xs) {i = i} (rw (length-take-le n xs fits) h))
+
+  -- the first i elements of s in the place of d's first i
+  module _ (s d : List A) (i : ℕ) where
+    pub laid-suc : (z : A) → i < length s → i < length d → set (take i s ++ drop i d) i (getD s i z) ≡ take (i + 1) s ++ drop (i + 1) d
+    laid-suc z h k =
+        ap (λ (r : List A). set (take i s ++ r) i (getD s i z)) (drop-cons d i z k)
+        ∙ set-at (take i s) (getD d i z) (drop (suc i) d) (getD s i z) i (length-take-le i s (le-of-lt h))
+        ∙ sym (append-snoc (take i s) (getD s i z) (drop (suc i) d))
+        ∙ rw (← take-suc s i z h, add-one)
+
+    -- all n elements of s are laid, or all of d is taken up
+    module _ (n : ℕ) (e : length s ≡ n) where
+      pub laid-all : i ≡ n → i ≤ length d → take i s ++ drop i d ≡ take (length d) s ++ drop n d
+      laid-all h k = rw (take-all i s (omega arith), take-all (length d) s (omega arith), h)
+
+      pub laid-short : i ≡ length d → length d ≤ n → take i s ++ drop i d ≡ take (length d) s ++ drop n d
+      laid-short h k = rw (h, drop-of-length-le d {i = length d} (omega arith), drop-of-length-le d {i = n} k)

@@ -1,0 +1,56 @@
+-- Laws of the number that bytes make, and of a number's low bytes.
+-- Assumes nothing.
+use mathlib.Core.Path.{_≡_, refl, sym, ap, _∙_}
+use mathlib.Core.List.{List, [], _∷_, _++_}
+use Prim.Native.Nat.{ℕ, zero, suc, _+_, _-_, _*_, _/_, _%_, _^_, _≤_, _<_}
+use native.Mathlib.Nat.{mul-assoc, le-of-suc-le-suc, not-suc-le-zero}
+use native.Mathlib.Numerals.{add-one}
+use native.Mathlib.Omega.{arith}
+use lib.ListN.{length, getD, take, drop, length-append, length-drop}
+use lib.Seq.{take-suc, getD-drop}
+use lib.Pow.{pow-add, mod-pow-add}
+use Rattle.bus.specs.Number.{number, lowBytes}
+
+-- one byte more makes 256 times as many numbers
+pub pow-byte : (k : ℕ) → 2 ^ (8 * (k + 1)) ≡ 2 ^ (8 * k) * 256
+pow-byte k =
+    let e : 8 * (k + 1) ≡ 8 * k + 8 = omega arith in
+    ap (λ (n : ℕ). 2 ^ n) e ∙ pow-add 2 (8 * k) 8
+
+-- one byte behind the others
+pub number-snoc : (bs : List ℕ) (b : ℕ) → number (bs ++ (b ∷ [])) ≡ number bs * 256 + b
+unfolding number
+number-snoc [] b = omega arith
+number-snoc (x ∷ bs) b =
+    let p : 2 ^ (8 * length (bs ++ (b ∷ []))) ≡ 2 ^ (8 * length bs) * 256 = rw (length-append bs (b ∷ [])) (pow-byte (length bs)) in
+    let r : number (bs ++ (b ∷ [])) ≡ number bs * 256 + b = number-snoc bs b in
+    rw (p, r) (omega (arith, mul-assoc x (2 ^ (8 * length bs)) 256))
+
+pub number-next : (bs : List ℕ) (o i : ℕ) → o + i < length bs → number (take (i + 1) (drop o bs)) ≡ number (take i (drop o bs)) * 256 + getD bs (o + i) 0
+number-next bs o i h =
+    let k : i < length (drop o bs) = rw length-drop (omega arith) in
+    ap number (rw (add-one, take-suc (drop o bs) i 0 k, getD-drop))
+    ∙ number-snoc (take i (drop o bs)) (getD bs (o + i) 0)
+
+pub length-lowBytes : (n v : ℕ) → length (lowBytes n v) ≡ n
+unfolding lowBytes
+length-lowBytes zero v = refl
+length-lowBytes (suc n) v = ap suc (length-lowBytes n v)
+
+pub lowBytes-at : (n v i : ℕ) → i < n → getD (lowBytes n v) i 0 ≡ v / 2 ^ (8 * (n - 1 - i)) % 256
+unfolding lowBytes
+lowBytes-at zero v i h = absurd (not-suc-le-zero h)
+lowBytes-at (suc n) v zero h =
+    let e : n ≡ suc n - 1 - 0 = omega arith in
+    ap (λ (k : ℕ). v / 2 ^ (8 * k) % 256) e
+lowBytes-at (suc n) v (suc i) h =
+    let e : n - 1 - i ≡ suc n - 1 - suc i = omega arith in
+    lowBytes-at n v i (le-of-suc-le-suc h) ∙ ap (λ (k : ℕ). v / 2 ^ (8 * k) % 256) e
+
+-- the low bytes make the remainder by their range
+pub number-lowBytes : (n v : ℕ) → number (lowBytes n v) ≡ v % 2 ^ (8 * n)
+unfolding number lowBytes
+number-lowBytes zero v = omega arith
+number-lowBytes (suc n) v =
+    let e : 8 + 8 * n ≡ 8 * suc n = omega arith in
+    rw (length-lowBytes n v, number-lowBytes n v) (sym (mod-pow-add v 8 (8 * n)) ∙ ap (λ (k : ℕ). v % 2 ^ k) e)

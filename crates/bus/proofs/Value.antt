@@ -1,0 +1,44 @@
+-- The theorems on values: no mask is shown as a number, and what is written reads back.
+-- Assumes nothing.
+use mathlib.Core.Path.{_≡_, refl, sym, ap, _∙_}
+use mathlib.Core.Bool.{Bool, true, false, cond}
+use mathlib.Core.List.{List, _++_}
+use Prim.Native.Nat.{ℕ, _+_, _%_, _^_, _≤_}
+use native.Mathlib.Nat.{zero-add}
+use native.Mathlib.Omega.{arith}
+use borrow.Author.Tests.{le-leb, eqb-true, eqb-false}
+use lib.Dec.{eqb}
+use lib.ListN.{length, take, drop, length-append, length-take, length-drop}
+use lib.Seq.{take-all, take-at}
+use Rattle.bus.specs.declared.ValueWidth.{ValueWidth}
+use Rattle.bus.specs.declared.OptionU64.{OptionU64}
+use Rattle.bus.specs.declared.BankValue.the-variants.{Reading, NotImplemented, TemporarilyUnavailable}
+use Rattle.bus.specs.Number.{number, lowBytes}
+use Rattle.bus.specs.Width.{bytesOf, maskOf, tmaskOf}
+use Rattle.bus.specs.Value.{classified, valueOf, readAt, encoded, NoMask, NoMaskShown, ReadsBack}
+use Rattle.bus.proofs.Number.{length-lowBytes, number-lowBytes}
+
+pub no-mask-shown : NoMaskShown
+no-mask-shown w raw v e = by (eqb raw (maskOf w)) (eqb raw (tmaskOf w)) refl refl e
+  where
+    by :
+        (a b : Bool) → eqb raw (maskOf w) ≡ a → eqb raw (tmaskOf w) ≡ b →
+        valueOf (cond a NotImplemented (cond b TemporarilyUnavailable (Reading raw))) ≡ OptionU64.Some v →
+        NoMask w raw v
+    by true b p q s = absurd (let z : _≡_ {A = ℕ} 0 1 = cc in omega arith)
+    by false true p q s = absurd (let z : _≡_ {A = ℕ} 0 1 = cc in omega arith)
+    by false false p q s =
+        let same : v ≡ raw = cc in
+        record {
+          is-raw = same;
+          no-mask = λ t. eqb-false raw (maskOf w) p (sym same ∙ t);
+          no-tmask = λ t. eqb-false raw (tmaskOf w) q (sym same ∙ t);
+        }
+
+pub reads-back : ReadsBack
+reads-back w raw out h =
+    let s : List ℕ = lowBytes (bytesOf w) raw in
+    let n : length s ≡ bytesOf w = length-lowBytes (bytesOf w) raw in
+    let whole : take (length out) s ≡ s = take-all (length out) s (omega arith) in
+    let long : 0 + bytesOf w ≤ length (encoded w raw out) = rw (whole, length-append, length-drop) (omega arith) in
+    rw (le-leb _ _ long, whole, take-at s (drop (bytesOf w) out) (bytesOf w) n, number-lowBytes)

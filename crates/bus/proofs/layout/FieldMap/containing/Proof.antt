@@ -1,0 +1,80 @@
+-- `bus::layout::FieldMap::containing` meets its contract. The invariant: the search from field i on finds what the search
+-- of the whole map finds. The measure is the number of fields that are left.
+-- Assumes nothing.
+use mathlib.Core.Path.{_≡_, refl, sym, ap, _∙_}
+use Prim.Native.Nat.{ℕ, _-_, _≤_, _<_}
+use native.Mathlib.Omega.{arith}
+use borrow.Author.Needs.{needs}
+use lib.ListN.{length, drop, length-map}
+use Rattle.bus.specs.declared.ValueWidth.the-variants.{U8}
+use Rattle.bus.specs.Options.{optionBankField}
+use Rattle.bus.specs.Maps.{entries, holds, firstWith}
+use Rattle.bus.proofs.Lists.{found, passed, ended}
+use Rattle.bus.proofs.layout.FieldMap.containing.Statement.{statement}
+use Rattle.bus.proofs.layout.FieldMap.containing.Tie as tie
+
+abbrev Inv-loop : tie.InvT-loop
+Inv-loop offset self i₀ i = firstWith (holds offset) (drop i (entries self)) ≡ firstWith (holds offset) (entries self)
+
+abbrev μ-loop : tie.MeasureT-loop
+μ-loop offset self i₀ i = self .len - i
+
+fits : (l : tie.At-loop Inv-loop μ-loop) → l .before .args .t1 .len ≤ length (l .before .args .t1 .fields)
+fits l =
+    let room : length (l .before .args .t1 .fields) ≡ 28 = sym (length-map (l .before .args .t1 .fields) _) ∙ l .before .good .0 .1 .1 .1 .0 .1 .0 .1 in
+    omega (arith, l .before .pre)
+
+loop-holds : tie.Need-loop-holds Inv-loop μ-loop
+loop-holds c = refl
+
+mul-field : tie.Need-mul-field Inv-loop μ-loop
+mul-field c = omega arith
+
+element-copy-out-field : tie.Need-element-copy-out-field Inv-loop μ-loop
+element-copy-out-field c = omega (arith, c .before .before .pre)
+
+holds-requires : tie.Need-holds-requires Inv-loop μ-loop
+holds-requires c κs = search needs
+
+returns : tie.Need-returns Inv-loop μ-loop
+returns c =
+    let l = c .before .before .before .before in
+    let t = l .before .args .t1 in
+    ap optionBankField
+    (sym (found _ (t .fields) (t .len) (l .loop .i) _ (fits l) (omega arith) (sym (c .before .holds .ensures) ∙ c .if1 .taken))
+    ∙ l .loop .inv)
+
+add-i : tie.Need-add-i Inv-loop μ-loop
+add-i c = omega arith
+
+loop-less : tie.Need-loop-less Inv-loop μ-loop
+loop-less c = omega arith
+
+loop-again : tie.Need-loop-again Inv-loop μ-loop
+loop-again c =
+    let l = c .before .before .before .before in
+    let t = l .before .args .t1 in
+    sym (passed _ (t .fields) (t .len) (l .loop .i) _ (fits l) (omega arith) (sym (c .before .holds .ensures) ∙ c .if1 .left))
+    ∙ l .loop .inv
+
+returns-2 : tie.Need-returns-2 Inv-loop μ-loop
+returns-2 c =
+    let l = c .before in
+    let t = l .before .args .t1 in
+    ap optionBankField (sym (ended _ (t .fields) (t .len) (l .loop .i) (record { offset = 0; width = U8 }) (fits l) (omega arith)) ∙ l .loop .inv)
+
+pub containing-spec : {M : Type 1} → statement M
+containing-spec =
+    tie.close
+    (tie.spec
+    Inv-loop
+    μ-loop
+    loop-holds
+    mul-field
+    element-copy-out-field
+    holds-requires
+    returns
+    add-i
+    loop-less
+    loop-again
+    returns-2)

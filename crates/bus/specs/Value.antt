@@ -1,0 +1,68 @@
+-- 01, "The records": what a raw number says at a width, read from a bank's bytes and written into them.
+-- Assumes nothing.
+use mathlib.Core.Path.{_≡_}
+use mathlib.Core.Bool.{Bool, true, false, cond}
+use mathlib.Core.List.{List, _++_}
+use mathlib.Core.Option.{Option, none, some}
+use Prim.Native.Nat.{ℕ, _+_, _%_, _^_, _≤_}
+use lib.Dec.{eqb, leb}
+use lib.ListN.{length, take, drop}
+use Rattle.bus.specs.declared.ValueWidth.{ValueWidth}
+use Rattle.bus.specs.declared.OptionU64.{OptionU64}
+use Rattle.bus.specs.declared.BankValue.{BankValue}
+use Rattle.bus.specs.declared.BankValue.the-variants.{Reading, NotImplemented, TemporarilyUnavailable}
+use Rattle.bus.specs.Number.{number, lowBytes}
+use Rattle.bus.specs.Width.{bytesOf, bitsOf, maskOf, tmaskOf, maxValidOf}
+
+-- "Masks": the number of each case of `BankValue`
+abbrev pub rawOf : ValueWidth → BankValue → ℕ
+rawOf w (Reading v) = v
+rawOf w NotImplemented = maskOf w
+rawOf w TemporarilyUnavailable = tmaskOf w
+
+-- what a raw number says: the mask and the one below it are no readings
+abbrev pub classified : ValueWidth → ℕ → BankValue
+classified w raw =
+    cond (eqb raw (rawOf w NotImplemented)) NotImplemented
+    (cond (eqb raw (rawOf w TemporarilyUnavailable)) TemporarilyUnavailable (Reading raw))
+
+abbrev pub valueOf : BankValue → OptionU64
+valueOf (Reading v) = OptionU64.Some v
+valueOf NotImplemented = OptionU64.None
+valueOf TemporarilyUnavailable = OptionU64.None
+
+abbrev pub unavailable : BankValue → Bool
+unavailable (Reading v) = false
+unavailable NotImplemented = false
+unavailable TemporarilyUnavailable = true
+
+-- "two less is a saturated reading": it keeps its value
+abbrev pub saturated : ValueWidth → BankValue → Bool
+saturated w (Reading v) = eqb v (maxValidOf w)
+saturated w NotImplemented = false
+saturated w TemporarilyUnavailable = false
+
+-- "a field not wholly present is absent"
+abbrev pub readAt : ValueWidth → ℕ → List ℕ → Option BankValue
+readAt w offset bytes =
+    cond (leb (offset + bytesOf w) (length bytes))
+    (some (classified w (number (take (bytesOf w) (drop offset bytes))))) none
+
+-- "`encode_value` (a short output takes the leading bytes)": the rest of a long one is unchanged
+abbrev pub encoded : ValueWidth → ℕ → List ℕ → List ℕ
+encoded w raw out = take (length out) (lowBytes (bytesOf w) raw) ++ drop (bytesOf w) out
+
+-- No mask is shown as a number: a value is the raw number itself, and neither mask.
+pub record NoMask (w : ValueWidth) (raw v : ℕ) : Type 0 where
+  pub is-raw : v ≡ raw
+  pub no-mask : v ≡ maskOf w → ⊥
+  pub no-tmask : v ≡ tmaskOf w → ⊥
+
+abbrev pub NoMaskShown : Type 0
+NoMaskShown = (w : ValueWidth) (raw v : ℕ) → valueOf (classified w raw) ≡ OptionU64.Some v → NoMask w raw v
+
+-- What is written into an output that is long enough reads back as its low bytes say.
+abbrev pub ReadsBack : Type 0
+ReadsBack =
+    (w : ValueWidth) (raw : ℕ) (out : List ℕ) →
+    bytesOf w ≤ length out → readAt w 0 (encoded w raw out) ≡ some (classified w (raw % 2 ^ bitsOf w))

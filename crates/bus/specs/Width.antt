@@ -1,0 +1,53 @@
+-- 01, "The records", the paragraph "Masks (DiiA 252)", and "A scale is the signed meaning of its byte".
+-- Assumes nothing.
+use mathlib.Core.Bool.{Bool, true, false, cond}
+use Prim.Native.Nat.{ℕ, _+_, _-_, _*_, _%_, _^_}
+use lib.Dec.{ltb}
+use lib.IntN.{ℤ, pos, _-ℤ_}
+use Rattle.bus.specs.declared.ValueWidth.{ValueWidth}
+use Rattle.bus.specs.declared.ValueWidth.the-variants.{U8, U16, U24, U32, U48, I8, I16, I32}
+
+-- the bytes of a width
+abbrev pub bytesOf : ValueWidth → ℕ
+bytesOf U8 = 1
+bytesOf U16 = 2
+bytesOf U24 = 3
+bytesOf U32 = 4
+bytesOf U48 = 6
+bytesOf I8 = 1
+bytesOf I16 = 2
+bytesOf I32 = 4
+
+-- the signed widths
+abbrev pub signed : ValueWidth → Bool
+signed U8 = false
+signed U16 = false
+signed U24 = false
+signed U32 = false
+signed U48 = false
+signed I8 = true
+signed I16 = true
+signed I32 = true
+
+abbrev pub bitsOf : ValueWidth → ℕ
+bitsOf w = 8 * bytesOf w
+
+-- "2 to the width less 1 unsigned; 7F, 7FFF, 7FFFFFFF hex signed": of a signed width one bit is the sign's
+abbrev pub maskOf : ValueWidth → ℕ
+maskOf w = 2 ^ (bitsOf w - cond (signed w) 1 0) - 1
+
+-- "One less is temporarily unavailable"
+abbrev pub tmaskOf : ValueWidth → ℕ
+tmaskOf w = maskOf w - 1
+
+-- "two less is a saturated reading"
+abbrev pub maxValidOf : ValueWidth → ℕ
+maxValidOf w = maskOf w - 2
+
+-- the signed meaning of a number of so many bits: from the half of its range on it is below zero
+abbrev pub signedMeaning : ℕ → ℕ → ℤ
+signedMeaning bits n = cond (ltb n (2 ^ (bits - 1))) (pos n) (pos n -ℤ pos (2 ^ bits))
+
+-- the signed meaning of the low bytes of any number
+abbrev pub toSigned : ValueWidth → ℕ → ℤ
+toSigned w raw = signedMeaning (bitsOf w) (raw % 2 ^ bitsOf w)

@@ -1,0 +1,190 @@
+//! Lines of upper-case hexadecimal digits, two to a byte. Requests and answers write a value in the same digits.
+
+const DIGITS: &[u8; 16] = b"0123456789ABCDEF";
+
+// A `usize` has 8 bytes in a line.
+const _: () = assert!(usize::BITS == 64);
+
+/// A line in the making.
+#[derive(Default)]
+pub struct Line {
+    text: Vec<u8>,
+}
+
+impl Line {
+    pub fn put(&mut self, value: &impl Put) {
+        value.put(self);
+    }
+
+    pub fn text(&self) -> &[u8] {
+        &self.text
+    }
+
+    pub fn clear(&mut self) {
+        self.text.clear();
+    }
+
+    fn bytes(&mut self, bytes: &[u8]) {
+        for byte in bytes {
+            self.text.push(DIGITS[usize::from(byte >> 4)]);
+            self.text.push(DIGITS[usize::from(byte & 0x0F)]);
+        }
+    }
+}
+
+/// The digits of a line that are still to be taken.
+pub struct Args<'a> {
+    digits: &'a [u8],
+}
+
+impl<'a> Args<'a> {
+    pub fn new(digits: &'a [u8]) -> Self {
+        Self { digits }
+    }
+
+    /// The next value, or none if the digits are not one.
+    pub fn take<T: Take>(&mut self) -> Option<T> {
+        T::take(self)
+    }
+
+    pub fn is_empty(&self) -> bool {
+        self.digits.is_empty()
+    }
+
+    fn byte(&mut self) -> Option<u8> {
+        let ([high, low], rest) = self.digits.split_first_chunk()?;
+        self.digits = rest;
+        Some(digit(*high)? << 4 | digit(*low)?)
+    }
+
+    fn array<const N: usize>(&mut self) -> Option<[u8; N]> {
+        let mut bytes = [0; N];
+        for byte in &mut bytes {
+            *byte = self.byte()?;
+        }
+        Some(bytes)
+    }
+}
+
+fn digit(digit: u8) -> Option<u8> {
+    let value = DIGITS.iter().position(|known| *known == digit)?;
+    Some(value as u8)
+}
+
+/// A value that a line can hold.
+pub trait Put {
+    fn put(&self, line: &mut Line);
+}
+
+/// A value that can be taken from a line.
+pub trait Take: Sized {
+    fn take(args: &mut Args) -> Option<Self>;
+}
+
+macro_rules! numbers {
+    ($($number:ty)*) => {$(
+        impl Put for $number {
+            fn put(&self, line: &mut Line) {
+                line.bytes(&self.to_be_bytes());
+            }
+        }
+
+        impl Take for $number {
+            fn take(args: &mut Args) -> Option<Self> {
+                args.array().map(Self::from_be_bytes)
+            }
+        }
+    )*};
+}
+
+numbers!(u8 u16 u64 usize);
+
+macro_rules! tuples {
+    ($(($($member:ident)*))*) => {$(
+        #[allow(non_snake_case)]
+        impl<$($member: Put),*> Put for ($($member,)*) {
+            fn put(&self, line: &mut Line) {
+                let ($($member,)*) = self;
+                $(line.put($member);)*
+            }
+        }
+
+        impl<$($member: Take),*> Take for ($($member,)*) {
+            fn take(args: &mut Args) -> Option<Self> {
+                Some(($(args.take::<$member>()?,)*))
+            }
+        }
+    )*};
+}
+
+tuples!((A B)(A B C));
+
+impl Put for () {
+    fn put(&self, _: &mut Line) {}
+}
+
+impl Take for () {
+    fn take(_: &mut Args) -> Option<Self> {
+        Some(())
+    }
+}
+
+impl Put for bool {
+    fn put(&self, line: &mut Line) {
+        line.put(&u8::from(*self));
+    }
+}
+
+impl Put for i64 {
+    fn put(&self, line: &mut Line) {
+        let negative = *self < 0;
+        let number = if negative { -1 - *self } else { *self };
+        line.put(&(negative, number as u64));
+    }
+}
+
+impl Put for i8 {
+    fn put(&self, line: &mut Line) {
+        line.put(&i64::from(*self));
+    }
+}
+
+impl<T: Put> Put for Option<T> {
+    fn put(&self, line: &mut Line) {
+        line.put(&self.is_some());
+        if let Some(value) = self {
+            line.put(value);
+        }
+    }
+}
+
+impl<T: Put, const N: usize> Put for [T; N] {
+    fn put(&self, line: &mut Line) {
+        for value in self {
+            line.put(value);
+        }
+    }
+}
+
+impl Put for Vec<u8> {
+    fn put(&self, line: &mut Line) {
+        line.put(&(self.len() as u16));
+        line.bytes(self);
+    }
+}
+
+impl Take for Vec<u8> {
+    fn take(args: &mut Args) -> Option<Self> {
+        let length: u16 = args.take()?;
+        (0..length).map(|_| args.byte()).collect()
+    }
+}
+
+/// A lent output as the call left it. Its length is that of the request, so an answer has its bytes alone.
+pub struct Output(pub Vec<u8>);
+
+impl Put for Output {
+    fn put(&self, line: &mut Line) {
+        line.bytes(&self.0);
+    }
+}

@@ -1,0 +1,82 @@
+//! Compares a program with the Rust that it was ported from; `README.md` has the requests and the commands.
+
+mod banks;
+mod block;
+mod compare;
+mod function;
+mod layout;
+mod line;
+mod part251;
+mod rng;
+
+use std::io::{self, Write};
+use std::path::Path;
+use std::process::ExitCode;
+use std::time::{SystemTime, UNIX_EPOCH};
+use std::{env, fs};
+
+use block::{add_line, answers, read_block, BLOCK_LEN};
+use compare::compare;
+use function::{functions, Scale, Source};
+
+const USAGE: &str = "usage: oracle compare PROGRAM [SEED] | oracle list DIR | oracle answer";
+
+/// The list is the same every time.
+const LIST_SEED: u64 = 251;
+
+fn main() -> ExitCode {
+    match run() {
+        Ok(()) => ExitCode::SUCCESS,
+        Err(error) => {
+            eprintln!("oracle: {error}");
+            ExitCode::FAILURE
+        }
+    }
+}
+
+fn run() -> io::Result<()> {
+    let args: Vec<String> = env::args().skip(1).collect();
+    let args: Vec<&str> = args.iter().map(String::as_str).collect();
+    match args[..] {
+        ["compare", program] => compare(program, seed_of_the_clock()),
+        ["compare", program, seed] => compare(program, seed.parse().map_err(io::Error::other)?),
+        ["list", dir] => list(Path::new(dir)),
+        ["answer"] => answer_input(),
+        _ => Err(io::Error::other(USAGE)),
+    }
+}
+
+fn seed_of_the_clock() -> u64 {
+    let since = SystemTime::now().duration_since(UNIX_EPOCH);
+    since.map_or(0, |since| since.as_nanos() as u64)
+}
+
+fn list(dir: &Path) -> io::Result<()> {
+    let mut source = Source::new(Scale::List, LIST_SEED);
+    let mut block = Vec::new();
+    for function in functions() {
+        function.ask(&mut source, &mut |request| {
+            add_line(&mut block, request);
+            Ok(())
+        })?;
+    }
+    if block.len() > BLOCK_LEN {
+        return Err(io::Error::other("the list is longer than a block"));
+    }
+    fs::write(dir.join("stdin"), &block)?;
+    fs::write(dir.join("stdout"), answers(&block)?)
+}
+
+/// Answers block by block, as `compare` asks.
+fn answer_input() -> io::Result<()> {
+    let mut input = io::stdin().lock();
+    let mut output = io::stdout().lock();
+    loop {
+        let block = read_block(&mut input)?;
+        if block.is_empty() {
+            return Ok(());
+        }
+        output.write_all(&answers(&block)?)?;
+        output.flush()?;
+    }
+}

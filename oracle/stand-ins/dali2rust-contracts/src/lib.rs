@@ -1,0 +1,70 @@
+//! Stands in for the crate of this name, which is not published: `luminaire_write.rs` names these types, and the
+//! modules beside it do not compile without it. The values of the patch bits are this stand-in's own.
+
+pub mod msg {
+    use std::convert::Infallible;
+
+    #[derive(Debug, Clone, Copy, Default, PartialEq, Eq)]
+    pub struct LuminaireNumbers {
+        pub patch_mask: u16,
+        pub year: u8,
+        pub week: u8,
+        pub nominal_input_power_w: u16,
+        pub power_at_minimum_w: u16,
+        pub nominal_min_ac_voltage_v: u16,
+        pub nominal_max_ac_voltage_v: u16,
+        pub nominal_light_output_lm: u32,
+        pub cri: u8,
+        pub cct_kelvin: u16,
+        pub light_distribution_type: u8,
+        pub lamp_current_ma: u16,
+    }
+
+    impl LuminaireNumbers {
+        pub const PATCH_YEAR: u16 = 1 << 0;
+        pub const PATCH_WEEK: u16 = 1 << 1;
+        pub const PATCH_NOMINAL_INPUT_POWER_W: u16 = 1 << 2;
+        pub const PATCH_POWER_AT_MINIMUM_W: u16 = 1 << 3;
+        pub const PATCH_NOMINAL_MIN_AC_VOLTAGE_V: u16 = 1 << 4;
+        pub const PATCH_NOMINAL_MAX_AC_VOLTAGE_V: u16 = 1 << 5;
+        pub const PATCH_NOMINAL_LIGHT_OUTPUT_LM: u16 = 1 << 6;
+        pub const PATCH_CRI: u16 = 1 << 7;
+        pub const PATCH_CCT_KELVIN: u16 = 1 << 8;
+        pub const PATCH_LIGHT_DISTRIBUTION_TYPE: u16 = 1 << 9;
+        pub const PATCH_LAMP_CURRENT_MA: u16 = 1 << 10;
+    }
+
+    #[derive(Debug, Clone, Copy, PartialEq, Eq)]
+    pub enum LuminaireTextField {
+        LuminaireColour,
+        LuminaireIdentification,
+        LightDistribution,
+        OemName,
+        CustomerStockingNumber,
+        FreeUse,
+    }
+
+    #[derive(Debug, Clone, Default, PartialEq, Eq)]
+    pub struct LuminaireText(String);
+
+    impl LuminaireText {
+        pub fn new() -> Self {
+            Self::default()
+        }
+
+        pub fn push_str(&mut self, text: &str) -> Result<(), Infallible> {
+            self.0.push_str(text);
+            Ok(())
+        }
+
+        pub fn as_bytes(&self) -> &[u8] {
+            self.0.as_bytes()
+        }
+    }
+
+    #[derive(Debug, Clone, PartialEq, Eq)]
+    pub struct LuminaireTextWrite {
+        pub field: LuminaireTextField,
+        pub text: LuminaireText,
+    }
+}
