@@ -7,13 +7,15 @@ use mathlib.Core.Option.{Option, none, some}
 use Prim.Native.Nat.{ℕ, zero, suc, _+_, _≤_, _<_}
 use native.Mathlib.Numerals.{add-one}
 use native.Mathlib.Omega.{arith}
-use lib.Dec.{T, eqb, eqb→eq}
+use lib.Dec.{T, eqb, eqb→eq, lit≤}
 use borrow.Author.Tests.{le-leb, lt-leb, ne-eqb}
-use lib.ListN.{getElem?}
+use lib.ListN.{length, getElem?}
+use lib.Seq.{take-append-seam}
 use Rattle.bus.specs.declared.layout.BankField.{BankField}
+use Rattle.bus.specs.declared.layout.FieldMap.{FieldMap}
 use Rattle.bus.specs.declared.layout.BankMap.{BankMap}
 use Rattle.bus.specs.declared.layout.BankMap.the-variants.{LuminaireInfo, Energy, GearDiagnostics, SourceDiagnostics, Maintenance, Missing}
-use Rattle.bus.specs.Maps.{mapAt, mapOf, fields, lastOf, endOf, Contiguous, EveryMapContiguous}
+use Rattle.bus.specs.Maps.{tableOf, entries, mapAt, mapOf, fields, lastOf, endOf, Contiguous, EveryMapContiguous}
 use Rattle.bus.proofs.Tests.{and-left, and-right}
 
 -- which map a bank has, where its number is no single one
@@ -34,6 +36,24 @@ no-map-high bank h₅ h₆ h₇ k =
 -- what a function of the map is, once a `match` has told which map the bank has
 pub at-map : {A : Type 0} (g : BankMap → A) {m told is : BankMap} → m ≡ told → m ≡ is → g told ≡ g is
 at-map g t e = ap g (sym t ∙ e)
+
+-- and what a function of its fields is, by its table
+pub in-table : {A : Type 0} (g : List BankField → A) {m told is : BankMap} {t : FieldMap} → t ≡ tableOf told → m ≡ told → m ≡ is → g (entries t) ≡ g (fields is)
+in-table g {told = told} at t e =
+    ap (λ (x : FieldMap). g (entries x)) at
+    ∙ ap g (take-append-seam (fields told) _)
+    ∙ at-map (λ (m : BankMap). g (fields m)) t e
+
+few-fields : (m : BankMap) → length (fields m) ≤ 28
+few-fields LuminaireInfo = lit≤ tt
+few-fields Energy = lit≤ tt
+few-fields GearDiagnostics = lit≤ tt
+few-fields SourceDiagnostics = lit≤ tt
+few-fields Maintenance = lit≤ tt
+few-fields Missing = lit≤ tt
+
+pub table-fits : (m : BankMap) {t : FieldMap} → t ≡ tableOf m → t .len ≤ 28
+table-fits m e = rw e (few-fields m)
 
 -- the test: each field starts where the one before it ends, the first at o, and the last ends behind the map's last offset
 abbrev runs : ℕ → Option ℕ → List BankField → Bool

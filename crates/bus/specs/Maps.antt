@@ -3,11 +3,11 @@
 -- Assumes nothing.
 use mathlib.Core.Path.{_≡_}
 use mathlib.Core.Bool.{Bool, true, cond, _&&_}
-use mathlib.Core.List.{List, [], _∷_}
+use mathlib.Core.List.{List, [], _∷_, _++_}
 use mathlib.Core.Option.{Option, none, some}
-use Prim.Native.Nat.{ℕ, _+_}
+use Prim.Native.Nat.{ℕ, _+_, _-_}
 use lib.Dec.{eqb, leb, ltb}
-use lib.ListN.{take, getElem?}
+use lib.ListN.{length, take, getElem?, replicate}
 use Rattle.bus.specs.declared.ValueWidth.{ValueWidth}
 use Rattle.bus.specs.declared.ValueWidth.the-variants.{U8, U16, U24, U32, U48, I8}
 use Rattle.bus.specs.declared.layout.BankField.{BankField}
@@ -15,10 +15,6 @@ use Rattle.bus.specs.declared.layout.FieldMap.{FieldMap}
 use Rattle.bus.specs.declared.layout.BankMap.{BankMap}
 use Rattle.bus.specs.declared.layout.BankMap.the-variants.{LuminaireInfo, Energy, GearDiagnostics, SourceDiagnostics, Maintenance, Missing}
 use Rattle.bus.specs.Width.{bytesOf}
-
--- the fields that a table holds
-abbrev pub entries : FieldMap → List BankField
-entries t = take (t .len) (t .fields)
 
 abbrev f : ℕ → ValueWidth → BankField
 f o w = record { offset = o; width = w }
@@ -60,6 +56,14 @@ fields GearDiagnostics = gearDiagnostics
 fields SourceDiagnostics = sourceDiagnostics
 fields Maintenance = maintenance
 fields Missing = []
+
+-- a map as a table: its fields, filled up to 28
+abbrev pub tableOf : BankMap → FieldMap
+tableOf m = record { len = length (fields m); fields = fields m ++ replicate (28 - length (fields m)) (f 0xFF U8) }
+
+-- the fields that a table holds
+abbrev pub entries : FieldMap → List BankField
+entries t = take (t .len) (t .fields)
 
 -- the last offset of a map: "The bank 1 map ends at 23 hex"
 abbrev pub lastOf : BankMap → Option ℕ

@@ -6,7 +6,7 @@ ghost use mathlib.Core.Path.{_≡_};
 ghost use Prim.Native.Nat.{_≤_};
 ghost use lib.ListN.{length, getElem?};
 ghost use Rattle.bus.specs.Options.{optionU8, optionBankField};
-ghost use Rattle.bus.specs.Maps.{mapAt, mapOf, entries, lastOffset, holds, firstWith, fieldContaining, isBoundary};
+ghost use Rattle.bus.specs.Maps.{tableOf, mapAt, mapOf, entries, lastOffset, holds, firstWith, fieldContaining, isBoundary};
 
 pub struct BankField {
     pub offset: u8,
@@ -407,6 +407,37 @@ pub enum BankMap {
     Missing,
 }
 
+// Each table by value, for a loop over it: an index into a constant would copy the table at each turn.
+pub fn luminaire_info_map() -> FieldMap
+    ensures { λ r. ⌜ r ≡ tableOf BankMap.LuminaireInfo ⌝ }
+{
+    BANK_LUMINAIRE_INFO_MAP
+}
+
+pub fn energy_map() -> FieldMap
+    ensures { λ r. ⌜ r ≡ tableOf BankMap.Energy ⌝ }
+{
+    BANK_ENERGY
+}
+
+pub fn gear_diagnostics_map() -> FieldMap
+    ensures { λ r. ⌜ r ≡ tableOf BankMap.GearDiagnostics ⌝ }
+{
+    BANK_GEAR_DIAGNOSTICS
+}
+
+pub fn source_diagnostics_map() -> FieldMap
+    ensures { λ r. ⌜ r ≡ tableOf BankMap.SourceDiagnostics ⌝ }
+{
+    BANK_SOURCE_DIAGNOSTICS
+}
+
+pub fn maintenance_map() -> FieldMap
+    ensures { λ r. ⌜ r ≡ tableOf BankMap.Maintenance ⌝ }
+{
+    BANK_LUMINAIRE
+}
+
 // The map of a bank, by its number.
 pub fn map_of(bank: u8) -> BankMap
     ensures { λ r. ⌜ r ≡ mapAt bank ⌝ }
@@ -440,11 +471,11 @@ pub fn bank_field_map_len(bank: u8) -> usize
     ensures { λ r. ⌜ r ≡ length (mapOf bank) ⌝ }
 {
     match map_of(bank) {
-        BankMap::LuminaireInfo => BANK_LUMINAIRE_INFO_MAP.len,
-        BankMap::Energy => BANK_ENERGY.len,
-        BankMap::GearDiagnostics => BANK_GEAR_DIAGNOSTICS.len,
-        BankMap::SourceDiagnostics => BANK_SOURCE_DIAGNOSTICS.len,
-        BankMap::Maintenance => BANK_LUMINAIRE.len,
+        BankMap::LuminaireInfo => 28,
+        BankMap::Energy => 8,
+        BankMap::GearDiagnostics => 23,
+        BankMap::SourceDiagnostics => 21,
+        BankMap::Maintenance => 7,
         BankMap::Missing => 0,
     }
 }
@@ -454,11 +485,11 @@ pub fn bank_field_map(bank: u8, index: usize) -> OptionBankField
     ensures { λ r. ⌜ r ≡ optionBankField (getElem? (mapOf bank) index) ⌝ }
 {
     match map_of(bank) {
-        BankMap::LuminaireInfo => BANK_LUMINAIRE_INFO_MAP.entry(index),
-        BankMap::Energy => BANK_ENERGY.entry(index),
-        BankMap::GearDiagnostics => BANK_GEAR_DIAGNOSTICS.entry(index),
-        BankMap::SourceDiagnostics => BANK_SOURCE_DIAGNOSTICS.entry(index),
-        BankMap::Maintenance => BANK_LUMINAIRE.entry(index),
+        BankMap::LuminaireInfo => luminaire_info_map().entry(index),
+        BankMap::Energy => energy_map().entry(index),
+        BankMap::GearDiagnostics => gear_diagnostics_map().entry(index),
+        BankMap::SourceDiagnostics => source_diagnostics_map().entry(index),
+        BankMap::Maintenance => maintenance_map().entry(index),
         BankMap::Missing => OptionBankField::None,
     }
 }
@@ -468,11 +499,11 @@ pub fn field_containing(bank: u8, offset: u16) -> OptionBankField
     ensures { λ r. ⌜ r ≡ optionBankField (fieldContaining bank offset) ⌝ }
 {
     match map_of(bank) {
-        BankMap::LuminaireInfo => BANK_LUMINAIRE_INFO_MAP.containing(offset),
-        BankMap::Energy => BANK_ENERGY.containing(offset),
-        BankMap::GearDiagnostics => BANK_GEAR_DIAGNOSTICS.containing(offset),
-        BankMap::SourceDiagnostics => BANK_SOURCE_DIAGNOSTICS.containing(offset),
-        BankMap::Maintenance => BANK_LUMINAIRE.containing(offset),
+        BankMap::LuminaireInfo => luminaire_info_map().containing(offset),
+        BankMap::Energy => energy_map().containing(offset),
+        BankMap::GearDiagnostics => gear_diagnostics_map().containing(offset),
+        BankMap::SourceDiagnostics => source_diagnostics_map().containing(offset),
+        BankMap::Maintenance => maintenance_map().containing(offset),
         BankMap::Missing => OptionBankField::None,
     }
 }
