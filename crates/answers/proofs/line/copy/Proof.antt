@@ -1,0 +1,67 @@
+-- `answers::line::copy` meets its contract.
+-- Assumes nothing.
+use mathlib.Core.Path.{_≡_}
+use Prim.Native.Nat.{_-_, _≤_}
+use native.Mathlib.Omega.{arith}
+use lib.ListN.{length, length-set}
+use mathlib.Core.Path.{refl}
+use Rattle.answers.proofs.Counted.{counted}
+use Rattle.answers.proofs.line.copy.Statement.{statement}
+use Rattle.answers.proofs.line.copy.Tie as tie
+
+abbrev Inv-loop : tie.InvT-loop
+Inv-loop bytes space₀ i₀ space i = (i ≤ length bytes) × ((i ≤ length space) × (length space ≡ length space₀))
+
+abbrev μ-loop : tie.MeasureT-loop
+μ-loop bytes space₀ i₀ space i = length bytes - i
+
+loop-holds : tie.Need-loop-holds Inv-loop μ-loop
+loop-holds c = (omega arith, (omega arith, refl))
+
+same-length : tie.Need-same-length Inv-loop μ-loop
+same-length c = c .before .before .loop .inv .1 .1
+
+returns : tie.Need-returns Inv-loop μ-loop
+returns c =
+    let l = c .before .before in
+    counted (l .loop .i) (l .loop .space) (omega arith)
+
+shared-slice-read-space : tie.Need-shared-slice-read-space Inv-loop μ-loop
+shared-slice-read-space c = omega arith
+
+slice-write-space : tie.Need-slice-write-space Inv-loop μ-loop
+slice-write-space c = omega arith
+
+add-i : tie.Need-add-i Inv-loop μ-loop
+add-i c = omega arith
+
+loop-less : tie.Need-loop-less Inv-loop μ-loop
+loop-less c = omega arith
+
+loop-again : tie.Need-loop-again Inv-loop μ-loop
+loop-again c = simp length-set (omega arith)
+
+same-length-2 : tie.Need-same-length-2 Inv-loop μ-loop
+same-length-2 c = c .before .loop .inv .1 .1
+
+returns-2 : tie.Need-returns-2 Inv-loop μ-loop
+returns-2 c =
+    let l = c .before in
+    counted (l .loop .i) (l .loop .space) (omega arith)
+
+pub copy-spec : {M : Type 1} → statement M
+copy-spec =
+    tie.close
+    (tie.spec
+    Inv-loop
+    μ-loop
+    loop-holds
+    same-length
+    returns
+    shared-slice-read-space
+    slice-write-space
+    add-i
+    loop-less
+    loop-again
+    same-length-2
+    returns-2)

@@ -1,0 +1,55 @@
+// The functions of layout.rs.
+use crate::line;
+use bus::layout::OptionU8;
+
+pub(crate) fn answer(number: u8, request: &[u8], text: &mut [u8], n: usize) -> usize {
+    let bank = line::u8_at(request, 1);
+    match number {
+        0x10 => bank_last_offset(bank, text, n),
+        0x11 => line::put_option_bank_field(
+            text,
+            n,
+            bus::bank_field_map(bank, line::usize_at(request, 2)),
+        ),
+        0x12 => line::put_u64(text, n, bus::bank_field_map_len(bank) as u64),
+        0x13 => line::put_option_bank_field(
+            text,
+            n,
+            bus::field_containing(bank, line::u16_at(request, 2)),
+        ),
+        0x14 => line::put_bool(
+            text,
+            n,
+            bus::is_field_boundary(bank, line::u16_at(request, 2)),
+        ),
+        0x15 => constants(text, n),
+        _ => n,
+    }
+}
+
+fn bank_last_offset(bank: u8, text: &mut [u8], n: usize) -> usize {
+    match bus::bank_last_offset(bank) {
+        OptionU8::Some(offset) => {
+            let m = line::put_u8(text, n, 1);
+            line::put_u8(text, m, offset)
+        }
+        OptionU8::None => line::put_u8(text, n, 0),
+    }
+}
+
+fn constants(text: &mut [u8], n: usize) -> usize {
+    let m = line::put_u16(text, n, bus::layout::BANK_META_LEN);
+    let bytes = [
+        bus::layout::BANK_LOCK_BYTE,
+        bus::layout::BANK_VERSION_OFFSET,
+        bus::layout::DEVICE_TYPE_ENERGY,
+        bus::layout::DEVICE_TYPE_DIAGNOSTICS,
+        bus::layout::BANK_ACTIVE_ENERGY,
+        bus::layout::BANK_APPARENT_ENERGY,
+        bus::layout::BANK_LOADSIDE_ENERGY,
+        bus::layout::BANK_CONTROL_GEAR_DIAGNOSTICS,
+        bus::layout::BANK_LIGHT_SOURCE_DIAGNOSTICS,
+        bus::layout::BANK_LUMINAIRE_MAINTENANCE,
+    ];
+    line::put_slice(text, m, &bytes)
+}
