@@ -24,7 +24,7 @@ impl Scale {
     }
 
     fn random_cases(self) -> usize {
-        self.pick(160_000, 20)
+        self.pick(500_000, 20)
     }
 }
 

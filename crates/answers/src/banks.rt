@@ -7,18 +7,9 @@ use bus::ValueWidth;
 
 pub(crate) fn answer(number: u8, request: &[u8], text: &mut [u8], n: usize) -> usize {
     match number {
-        0x01 => line::put_u64(text, n, line::width_at(request, 1).bytes() as u64),
-        0x02 => line::put_u64(text, n, line::width_at(request, 1).mask()),
-        0x03 => line::put_u64(text, n, line::width_at(request, 1).tmask()),
-        0x04 => line::put_u64(text, n, line::width_at(request, 1).max_valid()),
-        0x05 => line::put_bool(text, n, line::width_at(request, 1).is_signed()),
+        0x01..=0x05 => of_width(number, line::width_at(request, 1), text, n),
         0x06 => to_signed(request, text, n),
-        0x07 => value(request, text, n),
-        0x08 => line::put_bool(
-            text,
-            n,
-            line::bank_value_at(request, 1).is_temporarily_unavailable(),
-        ),
+        0x07..=0x08 => of_value(number, line::bank_value_at(request, 1), text, n),
         0x09 => is_saturated(request, text, n),
         0x0A => read_value(request, text, n),
         0x0B => classify(request, text, n),
@@ -28,20 +19,36 @@ pub(crate) fn answer(number: u8, request: &[u8], text: &mut [u8], n: usize) -> u
     }
 }
 
-fn to_signed(request: &[u8], text: &mut [u8], n: usize) -> usize {
-    let width = line::width_at(request, 1);
-    line::put_i64(text, n, width.to_signed(line::u64_at(request, 2)))
+fn of_width(number: u8, width: ValueWidth, text: &mut [u8], n: usize) -> usize {
+    match number {
+        0x01 => line::put_u64(text, n, width.bytes() as u64),
+        0x02 => line::put_u64(text, n, width.mask()),
+        0x03 => line::put_u64(text, n, width.tmask()),
+        0x04 => line::put_u64(text, n, width.max_valid()),
+        _ => line::put_bool(text, n, width.is_signed()),
+    }
 }
 
-fn value(request: &[u8], text: &mut [u8], n: usize) -> usize {
-    let value = line::bank_value_at(request, 1);
-    match value.value() {
+fn of_value(number: u8, value: BankValue, text: &mut [u8], n: usize) -> usize {
+    match number {
+        0x07 => put_option_u64(text, n, value.value()),
+        _ => line::put_bool(text, n, value.is_temporarily_unavailable()),
+    }
+}
+
+fn put_option_u64(text: &mut [u8], n: usize, value: OptionU64) -> usize {
+    match value {
         OptionU64::Some(v) => {
             let m = line::put_u8(text, n, 1);
             line::put_u64(text, m, v)
         }
         OptionU64::None => line::put_u8(text, n, 0),
     }
+}
+
+fn to_signed(request: &[u8], text: &mut [u8], n: usize) -> usize {
+    let width = line::width_at(request, 1);
+    line::put_i64(text, n, width.to_signed(line::u64_at(request, 2)))
 }
 
 fn is_saturated(request: &[u8], text: &mut [u8], n: usize) -> usize {
@@ -78,7 +85,7 @@ fn put_encoded(raw: u64, width: ValueWidth, out: &mut [u8], text: &mut [u8], n: 
 fn encode_value(request: &[u8], text: &mut [u8], n: usize) -> usize {
     let raw = line::u64_at(request, 1);
     let width = line::width_at(request, 9);
-    let mut space = [0u8; 256];
+    let mut space = io::buffer();
     let len = line::copy(line::slice_at(request, 10), &mut space);
     put_encoded(raw, width, &mut space[..len], text, n)
 }

@@ -1,6 +1,6 @@
 // The functions of layout.rs.
 use crate::line;
-use bus::layout::OptionU8;
+use bus::OptionU8;
 
 pub(crate) fn answer(number: u8, request: &[u8], text: &mut [u8], n: usize) -> usize {
     let bank = line::u8_at(request, 1);
@@ -38,18 +38,18 @@ fn bank_last_offset(bank: u8, text: &mut [u8], n: usize) -> usize {
 }
 
 fn constants(text: &mut [u8], n: usize) -> usize {
-    let m = line::put_u16(text, n, bus::layout::BANK_META_LEN);
+    let m = line::put_u16(text, n, bus::BANK_META_LEN);
     let bytes = [
-        bus::layout::BANK_LOCK_BYTE,
-        bus::layout::BANK_VERSION_OFFSET,
-        bus::layout::DEVICE_TYPE_ENERGY,
-        bus::layout::DEVICE_TYPE_DIAGNOSTICS,
-        bus::layout::BANK_ACTIVE_ENERGY,
-        bus::layout::BANK_APPARENT_ENERGY,
-        bus::layout::BANK_LOADSIDE_ENERGY,
-        bus::layout::BANK_CONTROL_GEAR_DIAGNOSTICS,
-        bus::layout::BANK_LIGHT_SOURCE_DIAGNOSTICS,
-        bus::layout::BANK_LUMINAIRE_MAINTENANCE,
+        bus::BANK_LOCK_BYTE,
+        bus::BANK_VERSION_OFFSET,
+        bus::DEVICE_TYPE_ENERGY,
+        bus::DEVICE_TYPE_DIAGNOSTICS,
+        bus::BANK_ACTIVE_ENERGY,
+        bus::BANK_APPARENT_ENERGY,
+        bus::BANK_LOADSIDE_ENERGY,
+        bus::BANK_CONTROL_GEAR_DIAGNOSTICS,
+        bus::BANK_LIGHT_SOURCE_DIAGNOSTICS,
+        bus::BANK_LUMINAIRE_MAINTENANCE,
     ];
     line::put_slice(text, m, &bytes)
 }

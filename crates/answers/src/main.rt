@@ -25,7 +25,7 @@ fn answer_line(digits: &[u8], text: &mut [u8], n: usize) -> usize {
     if digits.len() == 0 {
         return n;
     }
-    let mut space = [0u8; 4096];
+    let mut space = io::buffer();
     let len = line::decode(digits, &mut space);
     let end = answer(&space[..len], text, n);
     line::put_newline(text, end)

@@ -1,14 +1,14 @@
 -- Laws of lists: an element and a search of the first n elements, and a list that takes the place of another's head.
 -- Assumes nothing.
 use mathlib.Core.Path.{_≡_, refl, sym, ap, _∙_}
-use mathlib.Core.Bool.{Bool, true, false, cond}
-use mathlib.Core.List.{List, [], _∷_, _++_, append-nil}
+use mathlib.Core.Bool.{Bool, true, false}
+use mathlib.Core.List.{List, [], _∷_, _++_}
 use mathlib.Core.Option.{none, some}
 use Prim.Native.Nat.{ℕ, zero, suc, _+_, _≤_, _<_}
 use native.Mathlib.Nat.{le-of-suc-le-suc, not-suc-le-zero, le-of-lt}
 use native.Mathlib.Numerals.{add-one}
 use native.Mathlib.Omega.{arith}
-use lib.ListN.{length, getD, getElem?, set, take, drop, drop-of-length-le, length-take}
+use lib.ListN.{length, getD, getElem?, set, take, drop, drop-of-length-le}
 use lib.Seq.{take-all, take-suc, drop-cons, set-at, append-snoc, length-take-le, getD-take}
 use Rattle.bus.specs.Maps.{firstWith}
 

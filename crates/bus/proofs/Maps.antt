@@ -1,10 +1,10 @@
 -- Laws of the maps: which map a bank has, and that the fields of each lie one behind the other.
 -- Assumes nothing.
-use mathlib.Core.Path.{_≡_, refl, sym, ap, _∙_}
-use mathlib.Core.Bool.{Bool, true, false, _&&_}
+use mathlib.Core.Path.{_≡_, sym, ap, _∙_}
+use mathlib.Core.Bool.{Bool, _&&_}
 use mathlib.Core.List.{List, [], _∷_}
-use mathlib.Core.Option.{Option, none, some}
-use Prim.Native.Nat.{ℕ, zero, suc, _+_, _≤_, _<_}
+use mathlib.Core.Option.{none, some}
+use Prim.Native.Nat.{ℕ, zero, suc, _≤_, _<_}
 use native.Mathlib.Numerals.{add-one}
 use native.Mathlib.Omega.{arith}
 use lib.Dec.{T, eqb, eqb→eq, lit≤}
@@ -15,7 +15,7 @@ use Rattle.bus.specs.declared.layout.BankField.{BankField}
 use Rattle.bus.specs.declared.layout.FieldMap.{FieldMap}
 use Rattle.bus.specs.declared.layout.BankMap.{BankMap}
 use Rattle.bus.specs.declared.layout.BankMap.the-variants.{LuminaireInfo, Energy, GearDiagnostics, SourceDiagnostics, Maintenance, Missing}
-use Rattle.bus.specs.Maps.{tableOf, entries, mapAt, mapOf, fields, lastOf, endOf, Contiguous, EveryMapContiguous}
+use Rattle.bus.specs.Maps.{tableOf, entries, mapAt, mapOf, fields, mapEnd, endOf, EveryMapContiguous}
 use Rattle.bus.proofs.Tests.{and-left, and-right}
 
 -- which map a bank has, where its number is no single one
@@ -55,13 +55,12 @@ few-fields Missing = lit≤ tt
 pub table-fits : (m : BankMap) {t : FieldMap} → t ≡ tableOf m → t .len ≤ 28
 table-fits m e = rw e (few-fields m)
 
--- the test: each field starts where the one before it ends, the first at o, and the last ends behind the map's last offset
-abbrev runs : ℕ → Option ℕ → List BankField → Bool
-runs o none [] = eqb o 0
-runs o (some l) [] = eqb o (l + 1)
-runs o l (x ∷ xs) = eqb (x .offset) o && runs (endOf x) l xs
+-- the test: each field starts where the one before it ends, the first at o, and the last one ends at end
+abbrev runs : ℕ → ℕ → List BankField → Bool
+runs end o [] = eqb o end
+runs end o (x ∷ xs) = eqb (x .offset) o && runs end (endOf x) xs
 
-every-map : (m : BankMap) → T (runs 0 (lastOf m) (fields m))
+every-map : (m : BankMap) → T (runs (mapEnd m) 0 (fields m))
 every-map LuminaireInfo = tt
 every-map Energy = tt
 every-map GearDiagnostics = tt
@@ -69,40 +68,47 @@ every-map SourceDiagnostics = tt
 every-map Maintenance = tt
 every-map Missing = tt
 
+-- no field stands in an empty list
+no-field : {A : Type 0} {x : BankField} → none ≡ some x → A
+no-field e =
+    let z : _≡_ {A = ℕ} 0 1 = cc in
+    let y : ⊥ = omega arith in
+    absurd y
+
 -- the rule at each entry of a list that passes the test
-module _ (last : Option ℕ) where
-  here : (o : ℕ) (x : BankField) (xs : List BankField) → T (runs o last (x ∷ xs)) → x .offset ≡ o
-  here o x xs t = eqb→eq (x .offset) o (and-left (eqb (x .offset) o) (runs (endOf x) last xs) t)
+module _ (end : ℕ) where
+  here : (o : ℕ) (x : BankField) (xs : List BankField) → T (runs end o (x ∷ xs)) → x .offset ≡ o
+  here o x xs t = eqb→eq (x .offset) o (and-left (eqb (x .offset) o) (runs end (endOf x) xs) t)
 
-  behind : (o : ℕ) (x : BankField) (xs : List BankField) → T (runs o last (x ∷ xs)) → T (runs (endOf x) last xs)
-  behind o x xs t = and-right (eqb (x .offset) o) (runs (endOf x) last xs) t
+  behind : (o : ℕ) (x : BankField) (xs : List BankField) → T (runs end o (x ∷ xs)) → T (runs end (endOf x) xs)
+  behind o x xs t = and-right (eqb (x .offset) o) (runs end (endOf x) xs) t
 
-  starts : {x : BankField} (o : ℕ) (xs : List BankField) → T (runs o last xs) → getElem? xs zero ≡ some x → x .offset ≡ o
-  starts o [] t e = absurd (let z : _≡_ {A = ℕ} 0 1 = cc in omega arith)
+  starts : {x : BankField} (o : ℕ) (xs : List BankField) → T (runs end o xs) → getElem? xs zero ≡ some x → x .offset ≡ o
+  starts o [] t e = no-field e
   starts {x} o (y ∷ ys) t e =
       let same : x ≡ y = cc in
       ap (λ (z : BankField). z .offset) same ∙ here o y ys t
 
-  follows : {x y : BankField} (o : ℕ) (xs : List BankField) → T (runs o last xs) → (i : ℕ) → getElem? xs i ≡ some x → getElem? xs (suc i) ≡ some y → y .offset ≡ endOf x
-  follows o [] t i e f = absurd (let z : _≡_ {A = ℕ} 0 1 = cc in omega arith)
+  follows : {x y : BankField} (o : ℕ) (xs : List BankField) → T (runs end o xs) → (i : ℕ) → getElem? xs i ≡ some x → getElem? xs (suc i) ≡ some y → y .offset ≡ endOf x
+  follows o [] t i e f = no-field e
   follows {x} o (z ∷ zs) t zero e f =
       let same : z ≡ x = cc in
       starts (endOf z) zs (behind o z zs t) f ∙ ap endOf same
   follows o (z ∷ zs) t (suc i) e f = follows (endOf z) zs (behind o z zs t) i e f
 
-ends : {x : BankField} (l o : ℕ) (xs : List BankField) → T (runs o (some l) xs) → (i : ℕ) → getElem? xs i ≡ some x → getElem? xs (suc i) ≡ none → endOf x ≡ l + 1
-ends l o [] t i e f = absurd (let z : _≡_ {A = ℕ} 0 1 = cc in omega arith)
-ends {x} l o (z ∷ []) t zero e f =
-    let same : x ≡ z = cc in
-    ap endOf same ∙ eqb→eq (endOf z) (l + 1) (behind (some l) o z [] t)
-ends l o (z ∷ w ∷ zs) t zero e f = absurd (let q : _≡_ {A = ℕ} 0 1 = cc in omega arith)
-ends l o (z ∷ zs) t (suc i) e f = ends l (endOf z) zs (behind (some l) o z zs t) i e f
+  ends : {x : BankField} (o : ℕ) (xs : List BankField) → T (runs end o xs) → (i : ℕ) → getElem? xs i ≡ some x → getElem? xs (suc i) ≡ none → endOf x ≡ end
+  ends o [] t i e f = no-field e
+  ends {x} o (z ∷ []) t zero e f =
+      let same : x ≡ z = cc in
+      ap endOf same ∙ eqb→eq (endOf z) end (behind o z [] t)
+  ends o (z ∷ y ∷ zs) t zero e f = no-field (sym f)
+  ends o (z ∷ zs) t (suc i) e f = ends (endOf z) zs (behind o z zs t) i e f
 
 pub every-map-contiguous : EveryMapContiguous
 every-map-contiguous bank =
-    let t : T (runs 0 (lastOf (mapAt bank)) (mapOf bank)) = every-map (mapAt bank) in
+    let t : T (runs (mapEnd (mapAt bank)) 0 (mapOf bank)) = every-map (mapAt bank) in
     record {
-      first = λ {x} e. starts (lastOf (mapAt bank)) 0 (mapOf bank) t e;
-      next = λ {x} {y} i e f. follows (lastOf (mapAt bank)) 0 (mapOf bank) t i e (rw add-one at f);
-      last = λ {x} {o} i e f l. ends o 0 (mapOf bank) (rw l at t) i e (rw add-one at f);
+      first = λ {x} e. starts (mapEnd (mapAt bank)) 0 (mapOf bank) t e;
+      next = λ {x} {y} i e f. follows (mapEnd (mapAt bank)) 0 (mapOf bank) t i e (rw add-one at f);
+      last = λ {x} i e f. ends (mapEnd (mapAt bank)) 0 (mapOf bank) t i e (rw add-one at f);
     }

@@ -1,13 +1,13 @@
 -- Laws of the signed meaning of a number of so many bits.
 -- Assumes nothing.
-use mathlib.Core.Path.{_≡_, refl, sym, ap, _∙_}
-use mathlib.Core.Bool.{Bool, true, false, cond}
-use Prim.Native.Nat.{ℕ, zero, suc, _+_, _-_, _*_, _^_, _≤_, _<_}
+use mathlib.Core.Path.{_≡_, refl, ap, _∙_}
+use mathlib.Core.Bool.{Bool, true, false}
+use Prim.Native.Nat.{ℕ, zero, suc, _+_, _-_, _*_, _/_, _^_, _≤_, _<_}
 use native.Mathlib.Nat.{not-suc-le-zero}
 use native.Mathlib.Omega.{arith}
 use borrow.Author.Tests.{lt-ltb, le-ltb, ltb-true, ltb-false}
 use lib.Dec.{ltb}
-use lib.IntN.{ℤ, pos, negsuc, _-ℤ_}
+use lib.IntN.{pos, negsuc, _-ℤ_}
 use lib.Pow.{pow-add}
 use lib.Signed.{mag}
 use Rattle.bus.specs.Width.{signedMeaning}
@@ -18,26 +18,25 @@ below-zero n zero h = absurd (not-suc-le-zero h)
 below-zero n (suc m) h = rw (lt-ltb n (suc m) h)
 
 module _ (bits n : ℕ) where
-  pub meaning-low : n < 2 ^ (bits - 1) → signedMeaning bits n ≡ pos n
-  meaning-low h = rw (lt-ltb n (2 ^ (bits - 1)) h)
+  pub meaning-low : n < 2 ^ bits / 2 → signedMeaning bits n ≡ pos n
+  meaning-low h = rw (lt-ltb n (2 ^ bits / 2) h)
 
-  pub meaning-high : 2 ^ (bits - 1) ≤ n → signedMeaning bits n ≡ pos n -ℤ pos (2 ^ bits)
-  meaning-high h = rw (le-ltb n (2 ^ (bits - 1)) h)
-
-  -- a range is twice its half
-  pub range-half : 1 ≤ bits → 2 ^ bits ≡ 2 ^ (bits - 1) * 2
-  range-half h =
-      let e : bits ≡ bits - 1 + 1 = omega arith in
-      ap (λ (k : ℕ). 2 ^ k) e ∙ pow-add 2 (bits - 1) 1
+  pub meaning-high : 2 ^ bits / 2 ≤ n → signedMeaning bits n ≡ pos n -ℤ pos (2 ^ bits)
+  meaning-high h = rw (le-ltb n (2 ^ bits / 2) h)
 
   -- the meaning of a number of so many bits fits a signed number of as many
-  pub meaning-fits : 1 ≤ bits → n < 2 ^ bits → mag (signedMeaning bits n) < 2 ^ (bits - 1)
-  meaning-fits some h = by (ltb n (2 ^ (bits - 1))) refl
+  pub meaning-fits : 1 ≤ bits → n < 2 ^ bits → mag (signedMeaning bits n) < 2 ^ bits / 2
+  meaning-fits some h = by (ltb n (2 ^ bits / 2)) refl
     where
-      by : (b : Bool) → ltb n (2 ^ (bits - 1)) ≡ b → mag (signedMeaning bits n) < 2 ^ (bits - 1)
+      even : 2 ^ bits ≡ 2 ^ (bits - 1) * 2
+      even =
+          let e : bits ≡ bits - 1 + 1 = omega arith in
+          ap (λ (k : ℕ). 2 ^ k) e ∙ pow-add 2 (bits - 1) 1
+
+      by : (b : Bool) → ltb n (2 ^ bits / 2) ≡ b → mag (signedMeaning bits n) < 2 ^ bits / 2
       by true e =
-          let low : n < 2 ^ (bits - 1) = ltb-true n (2 ^ (bits - 1)) e in
+          let low : n < 2 ^ bits / 2 = ltb-true n (2 ^ bits / 2) e in
           rw (meaning-low low) low
       by false e =
-          let high : 2 ^ (bits - 1) ≤ n = ltb-false n (2 ^ (bits - 1)) e in
-          rw (meaning-high high, below-zero n (2 ^ bits) h) (omega (arith, range-half some))
+          let high : 2 ^ bits / 2 ≤ n = ltb-false n (2 ^ bits / 2) e in
+          rw (meaning-high high, below-zero n (2 ^ bits) h) (omega (arith, even))

@@ -1,7 +1,6 @@
 -- Laws of tests: a test of two parts, and a proof by the outcome of a test.
 -- Assumes nothing.
-use mathlib.Core.Path.{_≡_, refl}
-use mathlib.Core.Bool.{Bool, true, false, _&&_, cond}
+use mathlib.Core.Bool.{Bool, true, false, _&&_}
 use lib.Dec.{T}
 
 pub and-left : (a b : Bool) → T (a && b) → T a

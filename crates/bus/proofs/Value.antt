@@ -1,21 +1,19 @@
 -- The theorems on values: no mask is shown as a number, and what is written reads back.
 -- Assumes nothing.
-use mathlib.Core.Path.{_≡_, refl, sym, ap, _∙_}
+use mathlib.Core.Path.{_≡_, refl, sym, _∙_}
 use mathlib.Core.Bool.{Bool, true, false, cond}
-use mathlib.Core.List.{List, _++_}
-use Prim.Native.Nat.{ℕ, _+_, _%_, _^_, _≤_}
-use native.Mathlib.Nat.{zero-add}
+use mathlib.Core.List.{List}
+use Prim.Native.Nat.{ℕ, _+_, _≤_}
 use native.Mathlib.Omega.{arith}
-use borrow.Author.Tests.{le-leb, eqb-true, eqb-false}
+use borrow.Author.Tests.{le-leb, eqb-false}
 use lib.Dec.{eqb}
-use lib.ListN.{length, take, drop, length-append, length-take, length-drop}
+use lib.ListN.{length, take, drop, length-append, length-drop}
 use lib.Seq.{take-all, take-at}
-use Rattle.bus.specs.declared.ValueWidth.{ValueWidth}
 use Rattle.bus.specs.declared.OptionU64.{OptionU64}
 use Rattle.bus.specs.declared.BankValue.the-variants.{Reading, NotImplemented, TemporarilyUnavailable}
-use Rattle.bus.specs.Number.{number, lowBytes}
+use Rattle.bus.specs.Number.{lowBytes}
 use Rattle.bus.specs.Width.{bytesOf, maskOf, tmaskOf}
-use Rattle.bus.specs.Value.{classified, valueOf, readAt, encoded, NoMask, NoMaskShown, ReadsBack}
+use Rattle.bus.specs.Value.{valueOf, encoded, NoMask, NoMaskShown, ReadsBack}
 use Rattle.bus.proofs.Number.{length-lowBytes, number-lowBytes}
 
 pub no-mask-shown : NoMaskShown

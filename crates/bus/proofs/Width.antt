@@ -1,15 +1,13 @@
 -- Laws over the width: how many bytes and bits a value has, and that its mask and its range fit 64 bits.
 -- Assumes nothing.
-use mathlib.Core.Path.{_≡_, _∙_, refl, sym, ap}
 use mathlib.Core.Bool.{Bool, true, false, cond, _&&_}
-use Prim.Native.Nat.{ℕ, _+_, _-_, _*_, _%_, _^_, _≤_, _<_}
-use native.Mathlib.Nat.{one-mul, le-trans}
+use Prim.Native.Nat.{_-_, _≤_}
 use native.Mathlib.Omega.{arith}
-use lib.Dec.{T, leb, leb→le, lit<, lit≤}
-use lib.Pow.{shl-exact, pow-mono}
+use lib.Dec.{T, leb, leb→le, lit≤}
+use lib.Pow.{pow-mono}
 use Rattle.bus.specs.declared.ValueWidth.{ValueWidth}
 use Rattle.bus.specs.declared.ValueWidth.the-variants.{U8, U16, U24, U32, U48, I8, I16, I32}
-use Rattle.bus.specs.Width.{bytesOf, bitsOf, signed, maskOf}
+use Rattle.bus.specs.Width.{bytesOf, bitsOf, signed, signBits, maskOf}
 use Rattle.bus.proofs.Tests.{and-left, and-right}
 
 -- a test that holds of each width in the table holds of a width
@@ -36,24 +34,17 @@ sized w =
       few = leb→le (bytesOf w) 6 (and-right (leb 1 (bytesOf w)) (leb (bytesOf w) 6) t);
     }
 
--- a shift of 1 is a power of 2
-pub shifted : (k : ℕ) → k < 64 → (1 * 2 ^ k) % 2 ^ 64 ≡ 2 ^ k
-shifted k h = shl-exact {a = 1} 1 k 64 (lit< tt) (omega arith) ∙ one-mul (2 ^ k)
-
--- the bits that a mask has
-pub record MaskBits (w : ValueWidth) : Type 0 where
-  pub some : 7 ≤ bitsOf w - cond (signed w) 1 0
-  pub few : bitsOf w - cond (signed w) 1 0 ≤ 48
-
-pub mask-bits : (w : ValueWidth) → MaskBits w
-mask-bits w =
-    let bounds : (7 ≤ bitsOf w - cond (signed w) 1 0) × (bitsOf w - cond (signed w) 1 0 ≤ 48) = by (signed w) (sized w) in
-    record { some = bounds .0; few = bounds .1 }
+pub few-sign-bits : (w : ValueWidth) → signBits w ≤ 1
+few-sign-bits w = by (signed w)
   where
-    by : (b : Bool) → Sized w → (7 ≤ bitsOf w - cond b 1 0) × (bitsOf w - cond b 1 0 ≤ 48)
-    by true s = (omega arith, omega arith)
-    by false s = (omega arith, omega arith)
+    by : (b : Bool) → cond b 1 0 ≤ 1
+    by true = lit≤ tt
+    by false = lit≤ tt
+
+-- a mask has at least 7 bits
+mask-bits : (w : ValueWidth) → 7 ≤ bitsOf w - signBits w
+mask-bits w = omega (arith, sized w, few-sign-bits w)
 
 -- no mask is below 7F hex
 pub mask-large : (w : ValueWidth) → 127 ≤ maskOf w
-mask-large w = omega (arith, pow-mono (mask-bits w .some))
+mask-large w = omega (arith, pow-mono (mask-bits w))

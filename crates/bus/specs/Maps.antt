@@ -10,6 +10,7 @@ use lib.Dec.{eqb, leb, ltb}
 use lib.ListN.{length, take, getElem?, replicate}
 use Rattle.bus.specs.declared.ValueWidth.{ValueWidth}
 use Rattle.bus.specs.declared.ValueWidth.the-variants.{U8, U16, U24, U32, U48, I8}
+use Rattle.bus.specs.declared.OptionU8.{OptionU8}
 use Rattle.bus.specs.declared.layout.BankField.{BankField}
 use Rattle.bus.specs.declared.layout.FieldMap.{FieldMap}
 use Rattle.bus.specs.declared.layout.BankMap.{BankMap}
@@ -65,14 +66,23 @@ tableOf m = record { len = length (fields m); fields = fields m ++ replicate (28
 abbrev pub entries : FieldMap → List BankField
 entries t = take (t .len) (t .fields)
 
--- the last offset of a map: "The bank 1 map ends at 23 hex"
-abbrev pub lastOf : BankMap → Option ℕ
-lastOf LuminaireInfo = some 0x23
-lastOf Energy = some 0x0F
-lastOf GearDiagnostics = some 0x1C
-lastOf SourceDiagnostics = some 0x20
-lastOf Maintenance = some 0x07
-lastOf Missing = none
+-- the offset behind a map's last byte: "The bank 1 map ends at 23 hex"
+abbrev pub mapEnd : BankMap → ℕ
+mapEnd LuminaireInfo = 0x23 + 1
+mapEnd Energy = 0x0F + 1
+mapEnd GearDiagnostics = 0x1C + 1
+mapEnd SourceDiagnostics = 0x20 + 1
+mapEnd Maintenance = 0x07 + 1
+mapEnd Missing = 0
+
+-- the last offset of banks 202 to 207, which end with their map; how long a bank 1 is, its own first byte says
+abbrev pub fixedLast : BankMap → OptionU8
+fixedLast LuminaireInfo = OptionU8.None
+fixedLast Energy = OptionU8.Some (mapEnd Energy - 1)
+fixedLast GearDiagnostics = OptionU8.Some (mapEnd GearDiagnostics - 1)
+fixedLast SourceDiagnostics = OptionU8.Some (mapEnd SourceDiagnostics - 1)
+fixedLast Maintenance = OptionU8.Some (mapEnd Maintenance - 1)
+fixedLast Missing = OptionU8.None
 
 -- the map of a bank, by its number: any other bank has none
 unfoldable pub mapAt : ℕ → BankMap
@@ -86,18 +96,6 @@ mapAt bank =
 -- the fields of a bank, by rising offset
 abbrev pub mapOf : ℕ → List BankField
 mapOf bank = fields (mapAt bank)
-
--- banks 202 to 207 end with their map; how long a bank 1 is, its own first byte says
-abbrev pub fixedLast : BankMap → Option ℕ
-fixedLast LuminaireInfo = none
-fixedLast Energy = lastOf Energy
-fixedLast GearDiagnostics = lastOf GearDiagnostics
-fixedLast SourceDiagnostics = lastOf SourceDiagnostics
-fixedLast Maintenance = lastOf Maintenance
-fixedLast Missing = none
-
-abbrev pub lastOffset : ℕ → Option ℕ
-lastOffset bank = fixedLast (mapAt bank)
 
 -- the offset behind a field's last byte
 abbrev pub endOf : BankField → ℕ
@@ -124,11 +122,11 @@ startsAt o none = true
 abbrev pub isBoundary : ℕ → ℕ → Bool
 isBoundary bank o = startsAt o (fieldContaining bank o)
 
--- The fields of a bank lie one behind the other, from offset 0 to the last offset of its map.
+-- The fields of a bank lie one behind the other, from offset 0 to the end of its map.
 pub record Contiguous (bank : ℕ) : Type 0 where
   pub first : {x : BankField} → getElem? (mapOf bank) 0 ≡ some x → x .offset ≡ 0
   pub next : {x y : BankField} (i : ℕ) → getElem? (mapOf bank) i ≡ some x → getElem? (mapOf bank) (i + 1) ≡ some y → y .offset ≡ endOf x
-  pub last : {x : BankField} {o : ℕ} (i : ℕ) → getElem? (mapOf bank) i ≡ some x → getElem? (mapOf bank) (i + 1) ≡ none → lastOf (mapAt bank) ≡ some o → endOf x ≡ o + 1
+  pub last : {x : BankField} (i : ℕ) → getElem? (mapOf bank) i ≡ some x → getElem? (mapOf bank) (i + 1) ≡ none → endOf x ≡ mapEnd (mapAt bank)
 
 abbrev pub EveryMapContiguous : Type 0
 EveryMapContiguous = (bank : ℕ) → Contiguous bank

@@ -1,7 +1,7 @@
 -- 01, "The records", the paragraph "Masks (DiiA 252)", and "A scale is the signed meaning of its byte".
 -- Assumes nothing.
 use mathlib.Core.Bool.{Bool, true, false, cond}
-use Prim.Native.Nat.{ℕ, _+_, _-_, _*_, _%_, _^_}
+use Prim.Native.Nat.{ℕ, _-_, _*_, _/_, _%_, _^_}
 use lib.Dec.{ltb}
 use lib.IntN.{ℤ, pos, _-ℤ_}
 use Rattle.bus.specs.declared.ValueWidth.{ValueWidth}
@@ -32,9 +32,13 @@ signed I32 = true
 abbrev pub bitsOf : ValueWidth → ℕ
 bitsOf w = 8 * bytesOf w
 
--- "2 to the width less 1 unsigned; 7F, 7FFF, 7FFFFFFF hex signed": of a signed width one bit is the sign's
+-- of a signed width one bit is the sign's
+abbrev pub signBits : ValueWidth → ℕ
+signBits w = cond (signed w) 1 0
+
+-- "2 to the width less 1 unsigned; 7F, 7FFF, 7FFFFFFF hex signed"
 abbrev pub maskOf : ValueWidth → ℕ
-maskOf w = 2 ^ (bitsOf w - cond (signed w) 1 0) - 1
+maskOf w = 2 ^ (bitsOf w - signBits w) - 1
 
 -- "One less is temporarily unavailable"
 abbrev pub tmaskOf : ValueWidth → ℕ
@@ -44,9 +48,9 @@ tmaskOf w = maskOf w - 1
 abbrev pub maxValidOf : ValueWidth → ℕ
 maxValidOf w = maskOf w - 2
 
--- the signed meaning of a number of so many bits: from the half of its range on it is below zero
+-- the signed meaning of a number of so many bits: from half its range on it is below zero
 abbrev pub signedMeaning : ℕ → ℕ → ℤ
-signedMeaning bits n = cond (ltb n (2 ^ (bits - 1))) (pos n) (pos n -ℤ pos (2 ^ bits))
+signedMeaning bits n = cond (ltb n (2 ^ bits / 2)) (pos n) (pos n -ℤ pos (2 ^ bits))
 
 -- the signed meaning of the low bytes of any number
 abbrev pub toSigned : ValueWidth → ℕ → ℤ

@@ -1,12 +1,13 @@
 // The field maps of the banks (layout.rs): constant tables of offset and width, and the look-ups in them.
+use crate::OptionU8;
 use crate::ValueWidth;
 use crate::part251::BANK_LUMINAIRE_INFO;
 use crate::part251::BANK_LUMINAIRE_INFO_MAP;
 ghost use mathlib.Core.Path.{_≡_};
 ghost use Prim.Native.Nat.{_≤_};
 ghost use lib.ListN.{length, getElem?};
-ghost use Rattle.bus.specs.Options.{optionU8, optionBankField};
-ghost use Rattle.bus.specs.Maps.{tableOf, mapAt, mapOf, entries, lastOffset, holds, firstWith, fieldContaining, isBoundary};
+ghost use Rattle.bus.specs.Options.{optionBankField};
+ghost use Rattle.bus.specs.Maps.{fields, tableOf, mapAt, mapOf, entries, fixedLast, holds, firstWith, fieldContaining, isBoundary};
 
 pub struct BankField {
     pub offset: u8,
@@ -30,11 +31,6 @@ impl BankField {
 
 pub enum OptionBankField {
     Some(BankField),
-    None,
-}
-
-pub enum OptionU8 {
-    Some(u8),
     None,
 }
 
@@ -452,11 +448,10 @@ pub fn map_of(bank: u8) -> BankMap
     }
 }
 
-// The last offset of a bank whose length is fixed.
-pub fn bank_last_offset(bank: u8) -> OptionU8
-    ensures { λ r. ⌜ r ≡ optionU8 (lastOffset bank) ⌝ }
+fn map_last_offset(map: BankMap) -> OptionU8
+    ensures { λ r. ⌜ r ≡ fixedLast map ⌝ }
 {
-    match map_of(bank) {
+    match map {
         BankMap::LuminaireInfo => OptionU8::None,
         BankMap::Energy => OptionU8::Some(0x0F),
         BankMap::GearDiagnostics => OptionU8::Some(0x1C),
@@ -466,11 +461,17 @@ pub fn bank_last_offset(bank: u8) -> OptionU8
     }
 }
 
-// How many fields the map of a bank has.
-pub fn bank_field_map_len(bank: u8) -> usize
-    ensures { λ r. ⌜ r ≡ length (mapOf bank) ⌝ }
+// The last offset of a bank whose length is fixed.
+pub fn bank_last_offset(bank: u8) -> OptionU8
+    ensures { λ r. ⌜ r ≡ fixedLast (mapAt bank) ⌝ }
 {
-    match map_of(bank) {
+    map_last_offset(map_of(bank))
+}
+
+fn map_len(map: BankMap) -> usize
+    ensures { λ r. ⌜ r ≡ length (fields map) ⌝ }
+{
+    match map {
         BankMap::LuminaireInfo => 28,
         BankMap::Energy => 8,
         BankMap::GearDiagnostics => 23,
@@ -478,6 +479,13 @@ pub fn bank_field_map_len(bank: u8) -> usize
         BankMap::Maintenance => 7,
         BankMap::Missing => 0,
     }
+}
+
+// How many fields the map of a bank has.
+pub fn bank_field_map_len(bank: u8) -> usize
+    ensures { λ r. ⌜ r ≡ length (mapOf bank) ⌝ }
+{
+    map_len(map_of(bank))
 }
 
 // One field of the map of a bank, by its place in it.
@@ -508,7 +516,7 @@ pub fn field_containing(bank: u8, offset: u16) -> OptionBankField
     }
 }
 
-// No field of a bank is cut where a part ends before an offset.
+// A part of a bank that starts at the offset, or ends before it, cuts no field.
 pub fn is_field_boundary(bank: u8, offset: u16) -> bool
     ensures { λ r. ⌜ r ≡ isBoundary bank offset ⌝ }
 {

@@ -3,13 +3,28 @@
 pub mod layout;
 pub mod part251;
 
+pub use layout::BANK_ACTIVE_ENERGY;
+pub use layout::BANK_APPARENT_ENERGY;
+pub use layout::BANK_CONTROL_GEAR_DIAGNOSTICS;
+pub use layout::BANK_LIGHT_SOURCE_DIAGNOSTICS;
+pub use layout::BANK_LOADSIDE_ENERGY;
+pub use layout::BANK_LOCK_BYTE;
+pub use layout::BANK_LUMINAIRE_MAINTENANCE;
+pub use layout::BANK_META_LEN;
+pub use layout::BANK_VERSION_OFFSET;
 pub use layout::BankField;
+pub use layout::DEVICE_TYPE_DIAGNOSTICS;
+pub use layout::DEVICE_TYPE_ENERGY;
 pub use layout::OptionBankField;
 pub use layout::bank_field_map;
 pub use layout::bank_field_map_len;
 pub use layout::bank_last_offset;
 pub use layout::field_containing;
 pub use layout::is_field_boundary;
+pub use part251::BANK_LUMINAIRE_INFO;
+pub use part251::BANK1_BASE_LAST_OFFSET;
+pub use part251::BANK1_FORMAT_GATE_LAST_OFFSET;
+pub use part251::CONTENT_FORMAT_ID_OFFSET;
 pub use part251::LuminaireFormat;
 pub use part251::OptionLuminaireFormat;
 pub use part251::TextRegion;
@@ -17,7 +32,7 @@ ghost use mathlib.Core.Path.{_≡_};
 ghost use Prim.Native.Nat.{_+_, _^_, _≤_, _<_};
 ghost use lib.ListN.{length, take, drop};
 ghost use Rattle.bus.specs.Number.{number};
-ghost use Rattle.bus.specs.Width.{bytesOf, signed, maskOf, tmaskOf, maxValidOf, toSigned, signedMeaning};
+ghost use Rattle.bus.specs.Width.{bytesOf, signed, signBits, maskOf, tmaskOf, maxValidOf, toSigned, signedMeaning};
 ghost use Rattle.bus.specs.Value.{classified, valueOf, unavailable, saturated, readAt, encoded};
 ghost use Rattle.bus.specs.Options.{optionBankValue};
 
@@ -55,16 +70,11 @@ impl ValueWidth {
         }
     }
 
-    // DiiA 252 Table 2: of a signed width one bit is the sign's.
+    // DiiA 252 Table 2
     pub fn mask(self) -> u64
         ensures { λ r. ⌜ r ≡ maskOf self ⌝ }
     {
-        let bits = 8 * self.bytes();
-        if self.is_signed() {
-            power_of_two(bits - 1) - 1
-        } else {
-            power_of_two(bits) - 1
-        }
+        power_of_two(8 * self.bytes() - self.sign_bits()) - 1
     }
 
     // DiiA 252 Table 3
@@ -96,14 +106,19 @@ impl ValueWidth {
         }
     }
 
+    fn sign_bits(self) -> usize
+        ensures { λ r. ⌜ r ≡ signBits self ⌝ }
+    {
+        if self.is_signed() { 1 } else { 0 }
+    }
+
     // The signed meaning of the low bytes of raw, at any width.
     pub fn to_signed(self, raw: u64) -> i64
         ensures { λ r. ⌜ r ≡ toSigned self raw ⌝ }
     {
-        let bits = 8 * self.bytes();
-        let range = power_of_two(bits);
+        let range = power_of_two(8 * self.bytes());
         let low = raw % range;
-        if low < power_of_two(bits - 1) {
+        if low < range / 2 {
             low as i64
         } else {
             low as i64 - range as i64
@@ -116,6 +131,11 @@ pub fn signed_byte(raw: u8) -> i8
     ensures { λ r. ⌜ r ≡ signedMeaning 8 raw ⌝ }
 {
     ValueWidth::I8.to_signed(raw as u64) as i8
+}
+
+pub enum OptionU8 {
+    Some(u8),
+    None,
 }
 
 pub enum OptionU64 {

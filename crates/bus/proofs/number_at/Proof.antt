@@ -4,7 +4,7 @@
 use mathlib.Core.Path.{_≡_, refl, sym, ap, _∙_}
 use Prim.Native.Nat.{ℕ, _+_, _*_, _-_, _^_, _≤_, _<_}
 use native.Mathlib.Omega.{arith}
-use lib.ListN.{length, getD, take, drop, length-drop}
+use lib.ListN.{getD, take, drop}
 use lib.Pow.{pow-mono}
 use Rattle.bus.specs.Number.{number}
 use Rattle.bus.proofs.Number.{pow-byte, number-next}

@@ -1,13 +1,11 @@
 -- `bus::signed_byte` meets its contract: a byte is its own remainder, and its meaning fits 8 bits.
 -- Assumes nothing.
 use mathlib.Core.Path.{_≡_, ap, _∙_}
-use Prim.Native.Nat.{ℕ, _%_}
 use native.Mathlib.Nat.{mod-eq-of-lt}
 use native.Mathlib.Omega.{arith}
-use lib.IntN.{ℤ}
 use mir.Facts.{toZ-ofZ}
-use mir.Syntax.{w8, w64}
-use mir.Val.{SFits, toZ, ofZ}
+use mir.Syntax.{w64}
+use mir.Val.{toZ, ofZ}
 use borrow.Author.Needs.{needs}
 use Rattle.bus.specs.Width.{signedMeaning}
 use Rattle.bus.proofs.Signed.{meaning-fits}

@@ -1,11 +1,11 @@
 -- `bus::ValueWidth::to_signed` meets its contract: the remainder by the range, and from half the range on less the range.
 -- Assumes nothing.
 use mathlib.Core.Path.{_≡_, sym, ap, _∙_}
-use Prim.Native.Nat.{ℕ, _-_, _*_, _%_, _^_, _≤_, _<_}
+use Prim.Native.Nat.{ℕ, _*_, _/_, _%_, _^_, _≤_, _<_}
 use native.Mathlib.Nat.{mod-lt}
 use native.Mathlib.Omega.{arith}
 use lib.Pow.{pow-pos, pow-mono}
-use lib.IntN.{ℤ, pos, _-ℤ_}
+use lib.IntN.{pos, _-ℤ_}
 use mir.Facts.{toZ-pos, toZ-ofZ}
 use mir.Syntax.{w64}
 use mir.Val.{SFits}
@@ -22,17 +22,17 @@ module _ (c : tie.After-power-of-two) where
   abbrev Width : ValueWidth
   Width = c .before .before .args .self
 
+  abbrev Raw : ℕ
+  Raw = c .before .before .args .raw
+
   abbrev Range : ℕ
   Range = c .power-of-two .result
 
   abbrev Low : ℕ
-  Low = c .before .before .args .raw % Range
+  Low = Raw % Range
 
   range-is : Range ≡ 2 ^ bitsOf Width
   range-is = c .power-of-two .ensures ∙ ap (λ (k : ℕ). 2 ^ (8 * k)) (c .before .bytes .ensures)
-
-  of-width : signedMeaning (bitsOf Width) Low ≡ toSigned Width (c .before .before .args .raw)
-  of-width = ap (λ (r : ℕ). signedMeaning (bitsOf Width) (c .before .before .args .raw % r)) range-is
 
   some-range : 0 < Range
   some-range = omega (arith, range-is, pow-pos (bitsOf Width))
@@ -43,7 +43,7 @@ module _ (c : tie.After-power-of-two) where
       omega (arith, range-is, pow-mono few)
 
   in-range : Low < Range
-  in-range = mod-lt (c .before .before .args .raw) some-range
+  in-range = mod-lt Raw some-range
 
   low-fits : SFits w64 (pos Low)
   low-fits = record { sfits = omega (arith, in-range, small-range) }
@@ -54,11 +54,14 @@ module _ (c : tie.After-power-of-two) where
   difference-fits : SFits w64 (pos Low -ℤ pos Range)
   difference-fits = rw (below-zero Low Range in-range) (record { sfits = omega (arith, small-range) })
 
+  of-width : signedMeaning (bitsOf Width) Low ≡ toSigned Width Raw
+  of-width = ap (λ (r : ℕ). signedMeaning (bitsOf Width) (Raw % r)) range-is
+
 bytes-requires : tie.Need-bytes-requires
 bytes-requires c κs = search needs
 
-mul-bits : tie.Need-mul-bits
-mul-bits c = omega (arith, sized (c .before .args .self))
+mul-power-of-two : tie.Need-mul-power-of-two
+mul-power-of-two c = omega (arith, sized (c .before .args .self))
 
 power-of-two-requires : tie.Need-power-of-two-requires
 power-of-two-requires c κs = omega (arith, sized (c .before .args .self))
@@ -66,39 +69,30 @@ power-of-two-requires c κs = omega (arith, sized (c .before .args .self))
 rem-low : tie.Need-rem-low
 rem-low c = some-range c
 
-sub-power-of-two : tie.Need-sub-power-of-two
-sub-power-of-two c = omega (arith, sized (c .before .before .args .self))
-
-power-of-two-requires-2 : tie.Need-power-of-two-requires-2
-power-of-two-requires-2 c κs = omega (arith, sized (c .before .before .args .self))
-
 cast-result : tie.Need-cast-result
-cast-result c = low-fits (c .before .before)
+cast-result c = low-fits (c .before)
 
 cast-result-2 : tie.Need-cast-result-2
-cast-result-2 c = low-fits (c .before .before)
+cast-result-2 c = low-fits (c .before)
 
 cast-result-3 : tie.Need-cast-result-3
-cast-result-3 c = range-fits (c .before .before)
+cast-result-3 c = range-fits (c .before)
 
 sub-result : tie.Need-sub-result
 sub-result c =
-    let p = c .before .before in
+    let p = c .before in
     rw (toZ-pos w64 (low-fits p .sfits), toZ-pos w64 (range-fits p .sfits)) (difference-fits p)
-
-half-is : (c : tie.After-power-of-two2) → c .power-of-two2 .result ≡ 2 ^ (bitsOf (c .before .before .before .args .self) - 1)
-half-is c = c .power-of-two2 .ensures ∙ ap (λ (k : ℕ). 2 ^ (8 * k - 1)) (c .before .before .bytes .ensures)
 
 returns : tie.Need-returns
 returns c =
-    let p = c .before .before in
-    let low : Low p < 2 ^ (bitsOf (Width p) - 1) = omega (arith, half-is (c .before)) in
+    let p = c .before in
+    let low : Low p < 2 ^ bitsOf (Width p) / 2 = rw (sym (range-is p)) (c .if1 .taken) in
     toZ-pos w64 (low-fits p .sfits) ∙ sym (meaning-low (bitsOf (Width p)) (Low p) low) ∙ of-width p
 
 returns-2 : tie.Need-returns-2
 returns-2 c =
-    let p = c .before .before in
-    let high : 2 ^ (bitsOf (Width p) - 1) ≤ Low p = omega (arith, half-is (c .before)) in
+    let p = c .before in
+    let high : 2 ^ bitsOf (Width p) / 2 ≤ Low p = rw (sym (range-is p)) (c .if1 .left) in
     toZ-ofZ (sub-result c)
     ∙ rw (toZ-pos w64 (low-fits p .sfits), toZ-pos w64 (range-fits p .sfits))
     (ap (λ (r : ℕ). pos (Low p) -ℤ pos r) (range-is p)
@@ -110,11 +104,9 @@ to-signed-spec =
     tie.close
     (tie.spec
     bytes-requires
-    mul-bits
+    mul-power-of-two
     power-of-two-requires
     rem-low
-    sub-power-of-two
-    power-of-two-requires-2
     cast-result
     cast-result-2
     cast-result-3
