@@ -11,6 +11,7 @@ use native.Mathlib.Omega.{arith}
 use lib.ListN.{length, getD, getElem?, set, take, drop, drop-of-length-le}
 use lib.Seq.{take-all, take-suc, drop-cons, set-at, append-snoc, length-take-le, getD-take}
 use Rattle.bus.specs.Maps.{firstWith}
+use Rattle.bus.proofs.Tests.{by-test}
 
 module _ {A : Type 0} where
   pub entry-in : (xs : List A) (n i : ℕ) (d : A) → i < n → n ≤ length xs → some (getD xs i d) ≡ getElem? (take n xs) i
@@ -43,6 +44,21 @@ module _ {A : Type 0} where
     pub ended : n ≤ i → firstWith p (drop i (take n xs)) ≡ none
     unfolding firstWith
     ended h = rw (drop-of-length-le (take n xs) {i = i} (rw (length-take-le n xs fits) h))
+
+  -- the element found passes the test
+  pub first-passes : (p : A → Bool) {x : A} (xs : List A) → firstWith p xs ≡ some x → p x ≡ true
+  unfolding firstWith
+  first-passes p [] e =
+      let z : _≡_ {A = ℕ} 0 1 = cc in
+      let y : ⊥ = omega arith in
+      absurd y
+  first-passes p {x} (y ∷ ys) e =
+      by-test (p y)
+      (λ t.
+      let f : some y ≡ some x = rw t at e in
+      let same : y ≡ x = cc in
+      ap p (sym same) ∙ t)
+      (λ t. first-passes p ys (rw t at e))
 
   -- the first i elements of s in the place of d's first i
   module _ (s d : List A) (i : ℕ) where

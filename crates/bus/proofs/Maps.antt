@@ -1,22 +1,23 @@
 -- Laws of the maps: which map a bank has, and that the fields of each lie one behind the other.
 -- Assumes nothing.
-use mathlib.Core.Path.{_≡_, sym, ap, _∙_}
-use mathlib.Core.Bool.{Bool, _&&_}
+use mathlib.Core.Path.{_≡_, refl, sym, ap, _∙_}
+use mathlib.Core.Bool.{Bool, true, false, _&&_, and-false}
 use mathlib.Core.List.{List, [], _∷_}
 use mathlib.Core.Option.{none, some}
-use Prim.Native.Nat.{ℕ, zero, suc, _≤_, _<_}
+use Prim.Native.Nat.{ℕ, zero, suc, _≤_, _<_, zero-le}
 use native.Mathlib.Numerals.{add-one}
 use native.Mathlib.Omega.{arith}
-use lib.Dec.{T, eqb, eqb→eq, lit≤}
-use borrow.Author.Tests.{le-leb, lt-leb, ne-eqb}
+use lib.Dec.{T, ltb, eqb, eqb→eq, lit≤}
+use borrow.Author.Tests.{le-leb, lt-leb, le-ltb, lt-ltb, ltb-true, ltb-false, ne-eqb}
 use lib.ListN.{length, getElem?}
 use lib.Seq.{take-append-seam}
 use Rattle.bus.specs.declared.layout.BankField.{BankField}
 use Rattle.bus.specs.declared.layout.FieldMap.{FieldMap}
 use Rattle.bus.specs.declared.layout.BankMap.{BankMap}
 use Rattle.bus.specs.declared.layout.BankMap.the-variants.{LuminaireInfo, Energy, GearDiagnostics, SourceDiagnostics, Maintenance, Missing}
-use Rattle.bus.specs.Maps.{tableOf, entries, mapAt, mapOf, fields, mapEnd, endOf, EveryMapContiguous}
-use Rattle.bus.proofs.Tests.{and-left, and-right}
+use Rattle.bus.specs.Maps.{tableOf, entries, mapAt, mapOf, fields, mapEnd, endOf, holds, firstWith, EveryMapContiguous, EveryOffsetFound}
+use Rattle.bus.proofs.Tests.{and-left, and-right, by-test}
+use Rattle.bus.proofs.Lists.{first-passes}
 
 -- which map a bank has, where its number is no single one
 pub energy-bank : (bank : ℕ) → 202 ≤ bank → bank < 205 → Energy ≡ mapAt bank
@@ -75,6 +76,13 @@ no-field e =
     let y : ⊥ = omega arith in
     absurd y
 
+-- which bytes a field holds
+held : (o : ℕ) (x : BankField) → x .offset ≤ o → o < endOf x → holds o x ≡ true
+held o x h k = rw (le-leb (x .offset) o h, lt-ltb o (endOf x) k)
+
+not-held : (o : ℕ) (x : BankField) → endOf x ≤ o → holds o x ≡ false
+not-held o x h = rw (le-ltb o (endOf x) h, and-false)
+
 -- the rule at each entry of a list that passes the test
 module _ (end : ℕ) where
   here : (o : ℕ) (x : BankField) (xs : List BankField) → T (runs end o (x ∷ xs)) → x .offset ≡ o
@@ -104,6 +112,30 @@ module _ (end : ℕ) where
   ends o (z ∷ y ∷ zs) t zero e f = no-field (sym f)
   ends o (z ∷ zs) t (suc i) e f = ends (endOf z) zs (behind o z zs t) i e f
 
+  reaches : (o : ℕ) (xs : List BankField) → T (runs end o xs) → o ≤ end
+  reaches o [] t = omega (arith, eqb→eq o end t)
+  reaches o (x ∷ xs) t = omega (arith, here o x xs t, reaches (endOf x) xs (behind o x xs t))
+
+  -- a search along the fields from offset `from` on
+  none-behind : (o from : ℕ) (xs : List BankField) → T (runs end from xs) → end ≤ o → firstWith (holds o) xs ≡ none
+  unfolding firstWith
+  none-behind o from [] t h = refl
+  none-behind o from (x ∷ xs) t h =
+      let rest = behind from x xs t in
+      rw (not-held o x (omega (arith, reaches (endOf x) xs rest))) (none-behind o (endOf x) xs rest h)
+
+  none-only-behind : (o from : ℕ) (xs : List BankField) → T (runs end from xs) → from ≤ o → firstWith (holds o) xs ≡ none → end ≤ o
+  unfolding firstWith
+  none-only-behind o from [] t k e = omega (arith, eqb→eq from end t)
+  none-only-behind o from (x ∷ xs) t k e =
+      by-test (ltb o (endOf x))
+      (λ l.
+      let starts-here : x .offset ≤ o = omega (arith, here from x xs t) in
+      no-field (sym (rw (held o x starts-here (ltb-true o (endOf x) l)) at e)))
+      (λ l.
+      let past : endOf x ≤ o = ltb-false o (endOf x) l in
+      none-only-behind o (endOf x) xs (behind from x xs t) past (rw (not-held o x past) at e))
+
 pub every-map-contiguous : EveryMapContiguous
 every-map-contiguous bank =
     let t : T (runs (mapEnd (mapAt bank)) 0 (mapOf bank)) = every-map (mapAt bank) in
@@ -111,4 +143,13 @@ every-map-contiguous bank =
       first = λ {x} e. starts (mapEnd (mapAt bank)) 0 (mapOf bank) t e;
       next = λ {x} {y} i e f. follows (mapEnd (mapAt bank)) 0 (mapOf bank) t i e (rw add-one at f);
       last = λ {x} i e f. ends (mapEnd (mapAt bank)) 0 (mapOf bank) t i e (rw add-one at f);
+    }
+
+pub every-offset-found : EveryOffsetFound
+every-offset-found bank o =
+    let t : T (runs (mapEnd (mapAt bank)) 0 (mapOf bank)) = every-map (mapAt bank) in
+    record {
+      holds-it = λ {x} e. first-passes (holds o) (mapOf bank) e;
+      none-behind = λ h. none-behind (mapEnd (mapAt bank)) o 0 (mapOf bank) t h;
+      none-only-behind = λ e. none-only-behind (mapEnd (mapAt bank)) o 0 (mapOf bank) t zero-le e;
     }

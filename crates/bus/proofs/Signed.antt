@@ -1,7 +1,6 @@
 -- Laws of the signed meaning of a number of so many bits.
 -- Assumes nothing.
-use mathlib.Core.Path.{_≡_, refl, ap, _∙_}
-use mathlib.Core.Bool.{Bool, true, false}
+use mathlib.Core.Path.{_≡_, ap, _∙_}
 use Prim.Native.Nat.{ℕ, zero, suc, _+_, _-_, _*_, _/_, _^_, _≤_, _<_}
 use native.Mathlib.Nat.{not-suc-le-zero}
 use native.Mathlib.Omega.{arith}
@@ -11,6 +10,7 @@ use lib.IntN.{pos, negsuc, _-ℤ_}
 use lib.Pow.{pow-add}
 use lib.Signed.{mag}
 use Rattle.bus.specs.Width.{signedMeaning}
+use Rattle.bus.proofs.Tests.{by-test}
 
 -- a smaller number less a larger one
 pub below-zero : (n r : ℕ) → n < r → pos n -ℤ pos r ≡ negsuc (r - suc n)
@@ -26,17 +26,13 @@ module _ (bits n : ℕ) where
 
   -- the meaning of a number of so many bits fits a signed number of as many
   pub meaning-fits : 1 ≤ bits → n < 2 ^ bits → mag (signedMeaning bits n) < 2 ^ bits / 2
-  meaning-fits some h = by (ltb n (2 ^ bits / 2)) refl
-    where
-      even : 2 ^ bits ≡ 2 ^ (bits - 1) * 2
-      even =
-          let e : bits ≡ bits - 1 + 1 = omega arith in
-          ap (λ (k : ℕ). 2 ^ k) e ∙ pow-add 2 (bits - 1) 1
-
-      by : (b : Bool) → ltb n (2 ^ bits / 2) ≡ b → mag (signedMeaning bits n) < 2 ^ bits / 2
-      by true e =
-          let low : n < 2 ^ bits / 2 = ltb-true n (2 ^ bits / 2) e in
-          rw (meaning-low low) low
-      by false e =
-          let high : 2 ^ bits / 2 ≤ n = ltb-false n (2 ^ bits / 2) e in
-          rw (meaning-high high, below-zero n (2 ^ bits) h) (omega (arith, even))
+  meaning-fits some h =
+      let e : bits ≡ bits - 1 + 1 = omega arith in
+      let even : 2 ^ bits ≡ 2 ^ (bits - 1) * 2 = ap (λ (k : ℕ). 2 ^ k) e ∙ pow-add 2 (bits - 1) 1 in
+      by-test (ltb n (2 ^ bits / 2))
+      (λ t.
+      let low : n < 2 ^ bits / 2 = ltb-true n (2 ^ bits / 2) t in
+      rw (meaning-low low) low)
+      (λ t.
+      let high : 2 ^ bits / 2 ≤ n = ltb-false n (2 ^ bits / 2) t in
+      rw (meaning-high high, below-zero n (2 ^ bits) h) (omega arith))

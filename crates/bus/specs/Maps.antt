@@ -5,7 +5,7 @@ use mathlib.Core.Path.{_≡_}
 use mathlib.Core.Bool.{Bool, true, cond, _&&_}
 use mathlib.Core.List.{List, [], _∷_, _++_}
 use mathlib.Core.Option.{Option, none, some}
-use Prim.Native.Nat.{ℕ, _+_, _-_}
+use Prim.Native.Nat.{ℕ, _+_, _-_, _≤_}
 use lib.Dec.{eqb, leb, ltb}
 use lib.ListN.{length, take, getElem?, replicate}
 use Rattle.bus.specs.declared.ValueWidth.{ValueWidth}
@@ -17,6 +17,7 @@ use Rattle.bus.specs.declared.layout.BankMap.{BankMap}
 use Rattle.bus.specs.declared.layout.BankMap.the-variants.{LuminaireInfo, Energy, GearDiagnostics, SourceDiagnostics, Maintenance, Missing}
 use Rattle.bus.specs.Width.{bytesOf}
 
+-- a field: its offset and its width
 abbrev f : ℕ → ValueWidth → BankField
 f o w = record { offset = o; width = w }
 
@@ -130,3 +131,12 @@ pub record Contiguous (bank : ℕ) : Type 0 where
 
 abbrev pub EveryMapContiguous : Type 0
 EveryMapContiguous = (bank : ℕ) → Contiguous bank
+
+-- The field found for an offset holds it, and none is found exactly from the end of the map on.
+pub record Found (bank o : ℕ) : Type 0 where
+  pub holds-it : {x : BankField} → fieldContaining bank o ≡ some x → holds o x ≡ true
+  pub none-behind : mapEnd (mapAt bank) ≤ o → fieldContaining bank o ≡ none
+  pub none-only-behind : fieldContaining bank o ≡ none → mapEnd (mapAt bank) ≤ o
+
+abbrev pub EveryOffsetFound : Type 0
+EveryOffsetFound = (bank o : ℕ) → Found bank o

@@ -16,7 +16,7 @@ idOf V3 = 3
 idOf V4 = 4
 idOf V5 = 5
 
--- the format of an id, which any other number has not
+-- the format that has an id; any other number has none
 unfoldable pub formatOf : ℕ → Option LuminaireFormat
 formatOf id = firstWith (λ v. eqb id (idOf v)) (V3 ∷ V4 ∷ V5 ∷ [])
 

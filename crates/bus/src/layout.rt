@@ -91,7 +91,7 @@ const META_2: BankField = BankField {
 };
 
 // Fills a table behind its map.
-pub const UNUSED: BankField = BankField {
+const UNUSED: BankField = BankField {
     offset: 0xFF,
     width: ValueWidth::U8,
 };
