@@ -32,7 +32,7 @@ ghost use mathlib.Core.Path.{_≡_};
 ghost use Prim.Native.Nat.{_+_, _^_, _≤_, _<_};
 ghost use lib.ListN.{length, take, drop};
 ghost use Rattle.bus.specs.Number.{number};
-ghost use Rattle.bus.specs.Width.{bytesOf, signed, signBits, maskOf, tmaskOf, maxValidOf, toSigned, signedMeaning};
+ghost use Rattle.bus.specs.Width.{bytesOf, signed, maskOf, tmaskOf, maxValidOf, toSigned, signedMeaning};
 ghost use Rattle.bus.specs.Value.{classified, valueOf, unavailable, saturated, readAt, encoded};
 ghost use Rattle.bus.specs.Options.{optionBankValue};
 
@@ -70,11 +70,11 @@ impl ValueWidth {
         }
     }
 
-    // DiiA 252 Table 2
+    // DiiA 252 Table 2: of a signed width one bit is the sign's.
     pub fn mask(self) -> u64
         ensures { λ r. ⌜ r ≡ maskOf self ⌝ }
     {
-        power_of_two(8 * self.bytes() - self.sign_bits()) - 1
+        power_of_two(8 * self.bytes() - self.is_signed() as usize) - 1
     }
 
     // DiiA 252 Table 3
@@ -104,12 +104,6 @@ impl ValueWidth {
             ValueWidth::I16 => true,
             ValueWidth::I32 => true,
         }
-    }
-
-    fn sign_bits(self) -> usize
-        ensures { λ r. ⌜ r ≡ signBits self ⌝ }
-    {
-        if self.is_signed() { 1 } else { 0 }
     }
 
     // The signed meaning of the low bytes of raw, at any width.
