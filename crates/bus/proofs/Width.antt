@@ -1,4 +1,4 @@
--- Laws over the width: how many bytes and bits a value has, and that its mask and its range fit 64 bits.
+-- Laws over the width: a value has 1 to 6 bytes, and no mask is below 7F hex.
 -- Assumes nothing.
 use mathlib.Core.Bool.{Bool, true, false, cond, _&&_}
 use Prim.Native.Nat.{_-_, _≤_}

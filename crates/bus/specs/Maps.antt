@@ -51,6 +51,7 @@ sourceDiagnostics =
 abbrev pub maintenance : List BankField
 maintenance = f 0x00 U8 ∷ f 0x01 U8 ∷ f 0x02 U8 ∷ f 0x03 U8 ∷ f 0x04 U8 ∷ f 0x05 U8 ∷ f 0x06 U16 ∷ []
 
+-- the fields of each map; a bank that is not named has none
 abbrev pub fields : BankMap → List BankField
 fields LuminaireInfo = luminaireInfo
 fields Energy = energy
@@ -85,7 +86,7 @@ fixedLast SourceDiagnostics = OptionU8.Some (mapEnd SourceDiagnostics - 1)
 fixedLast Maintenance = OptionU8.Some (mapEnd Maintenance - 1)
 fixedLast Missing = OptionU8.None
 
--- the map of a bank, by its number: any other bank has none
+-- the map of a bank, by its number
 unfoldable pub mapAt : ℕ → BankMap
 mapAt bank =
     cond (eqb bank 1) LuminaireInfo
@@ -120,6 +121,7 @@ abbrev pub startsAt : ℕ → Option BankField → Bool
 startsAt o (some x) = eqb (x .offset) o
 startsAt o none = true
 
+-- a part of a bank that starts at the offset, or ends before it, cuts no field
 abbrev pub isBoundary : ℕ → ℕ → Bool
 isBoundary bank o = startsAt o (fieldContaining bank o)
 

@@ -48,16 +48,19 @@ stockingNumber = text 0xB0 16 5
 abbrev pub freeUse : TextField
 freeUse = text 0xC2 8 5
 
+-- a format has the texts since it and since the formats before it
 abbrev pub inFormat : LuminaireFormat → TextField → Bool
 inFormat v t = leb (t .since) (idOf v)
 
+-- "distribution .. from format 4"
 abbrev pub hasLightDistribution : LuminaireFormat → Bool
 hasLightDistribution v = inFormat v distribution
 
--- the block of format 5
+-- "and from format 5 OEM name ..": the block that format 5 adds
 abbrev pub hasExtendedBlock : LuminaireFormat → Bool
 hasExtendedBlock v = inFormat v oemName
 
+-- the offset of a text field's last byte
 abbrev pub lastByte : TextField → ℕ
 lastByte t = t .region .offset + t .region .len - 1
 

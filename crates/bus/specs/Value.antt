@@ -26,11 +26,13 @@ classified w raw =
     cond (eqb raw (rawOf w NotImplemented)) NotImplemented
     (cond (eqb raw (rawOf w TemporarilyUnavailable)) TemporarilyUnavailable (Reading raw))
 
+-- only a reading has a value
 abbrev pub valueOf : BankValue → OptionU64
 valueOf (Reading v) = OptionU64.Some v
 valueOf NotImplemented = OptionU64.None
 valueOf TemporarilyUnavailable = OptionU64.None
 
+-- "temporarily unavailable"
 abbrev pub unavailable : BankValue → Bool
 unavailable (Reading v) = false
 unavailable NotImplemented = false

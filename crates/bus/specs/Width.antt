@@ -7,7 +7,7 @@ use lib.IntN.{ℤ, pos, _-ℤ_}
 use Rattle.bus.specs.declared.ValueWidth.{ValueWidth}
 use Rattle.bus.specs.declared.ValueWidth.the-variants.{U8, U16, U24, U32, U48, I8, I16, I32}
 
--- the bytes of a width
+-- `ValueWidth`, the widths of a bank's values: their bytes
 abbrev pub bytesOf : ValueWidth → ℕ
 bytesOf U8 = 1
 bytesOf U16 = 2
@@ -18,7 +18,7 @@ bytesOf I8 = 1
 bytesOf I16 = 2
 bytesOf I32 = 4
 
--- the signed widths
+-- and which of them are signed
 abbrev pub signed : ValueWidth → Bool
 signed U8 = false
 signed U16 = false
@@ -29,6 +29,7 @@ signed I8 = true
 signed I16 = true
 signed I32 = true
 
+-- "the width" of the masks, in bits
 abbrev pub bitsOf : ValueWidth → ℕ
 bitsOf w = 8 * bytesOf w
 
@@ -52,6 +53,6 @@ maxValidOf w = maskOf w - 2
 abbrev pub signedMeaning : ℕ → ℕ → ℤ
 signedMeaning bits n = cond (ltb n (2 ^ bits / 2)) (pos n) (pos n -ℤ pos (2 ^ bits))
 
--- the signed meaning of the low bytes of any number
+-- the signed meaning of the low bytes of any number: those above the width count nothing
 abbrev pub toSigned : ValueWidth → ℕ → ℤ
 toSigned w raw = signedMeaning (bitsOf w) (raw % 2 ^ bitsOf w)
