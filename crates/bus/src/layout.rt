@@ -34,8 +34,8 @@ pub enum OptionBankField {
     None,
 }
 
-// A map: its first len entries, by rising offset. Each table has room for the longest, so that one
-// loop serves all of them.
+// A table with its map's length: the first len entries are the map, by rising offset. Each table has
+// room for the longest map, so that one loop serves all of them.
 pub struct FieldMap {
     pub len: usize,
     pub fields: [BankField; 28],
@@ -97,285 +97,273 @@ const UNUSED: BankField = BankField {
 };
 
 // DiiA 252 §9.2.9, §9.2.10, §9.2.11
-pub const BANK_ENERGY: FieldMap = FieldMap {
-    len: 8,
-    fields: [
-        META_0,
-        META_1,
-        META_2,
-        BankField {
-            offset: 0x03,
-            width: ValueWidth::U8,
-        },
-        BankField {
-            offset: 0x04,
-            width: ValueWidth::I8,
-        },
-        BankField {
-            offset: 0x05,
-            width: ValueWidth::U48,
-        },
-        BankField {
-            offset: 0x0B,
-            width: ValueWidth::I8,
-        },
-        BankField {
-            offset: 0x0C,
-            width: ValueWidth::U32,
-        },
-        UNUSED,
-        UNUSED,
-        UNUSED,
-        UNUSED,
-        UNUSED,
-        UNUSED,
-        UNUSED,
-        UNUSED,
-        UNUSED,
-        UNUSED,
-        UNUSED,
-        UNUSED,
-        UNUSED,
-        UNUSED,
-        UNUSED,
-        UNUSED,
-        UNUSED,
-        UNUSED,
-        UNUSED,
-        UNUSED,
-    ],
-};
+pub const BANK_ENERGY: [BankField; 28] = [
+    META_0,
+    META_1,
+    META_2,
+    BankField {
+        offset: 0x03,
+        width: ValueWidth::U8,
+    },
+    BankField {
+        offset: 0x04,
+        width: ValueWidth::I8,
+    },
+    BankField {
+        offset: 0x05,
+        width: ValueWidth::U48,
+    },
+    BankField {
+        offset: 0x0B,
+        width: ValueWidth::I8,
+    },
+    BankField {
+        offset: 0x0C,
+        width: ValueWidth::U32,
+    },
+    UNUSED,
+    UNUSED,
+    UNUSED,
+    UNUSED,
+    UNUSED,
+    UNUSED,
+    UNUSED,
+    UNUSED,
+    UNUSED,
+    UNUSED,
+    UNUSED,
+    UNUSED,
+    UNUSED,
+    UNUSED,
+    UNUSED,
+    UNUSED,
+    UNUSED,
+    UNUSED,
+    UNUSED,
+    UNUSED,
+];
 
 // DiiA 253 §9.2.16
-pub const BANK_GEAR_DIAGNOSTICS: FieldMap = FieldMap {
-    len: 23,
-    fields: [
-        META_0,
-        META_1,
-        META_2,
-        BankField {
-            offset: 0x03,
-            width: ValueWidth::U8,
-        },
-        BankField {
-            offset: 0x04,
-            width: ValueWidth::U32,
-        },
-        BankField {
-            offset: 0x08,
-            width: ValueWidth::U24,
-        },
-        BankField {
-            offset: 0x0B,
-            width: ValueWidth::U16,
-        },
-        BankField {
-            offset: 0x0D,
-            width: ValueWidth::U8,
-        },
-        BankField {
-            offset: 0x0E,
-            width: ValueWidth::U8,
-        },
-        BankField {
-            offset: 0x0F,
-            width: ValueWidth::U8,
-        },
-        BankField {
-            offset: 0x10,
-            width: ValueWidth::U8,
-        },
-        BankField {
-            offset: 0x11,
-            width: ValueWidth::U8,
-        },
-        BankField {
-            offset: 0x12,
-            width: ValueWidth::U8,
-        },
-        BankField {
-            offset: 0x13,
-            width: ValueWidth::U8,
-        },
-        BankField {
-            offset: 0x14,
-            width: ValueWidth::U8,
-        },
-        BankField {
-            offset: 0x15,
-            width: ValueWidth::U8,
-        },
-        BankField {
-            offset: 0x16,
-            width: ValueWidth::U8,
-        },
-        BankField {
-            offset: 0x17,
-            width: ValueWidth::U8,
-        },
-        BankField {
-            offset: 0x18,
-            width: ValueWidth::U8,
-        },
-        BankField {
-            offset: 0x19,
-            width: ValueWidth::U8,
-        },
-        BankField {
-            offset: 0x1A,
-            width: ValueWidth::U8,
-        },
-        BankField {
-            offset: 0x1B,
-            width: ValueWidth::U8,
-        },
-        BankField {
-            offset: 0x1C,
-            width: ValueWidth::U8,
-        },
-        UNUSED,
-        UNUSED,
-        UNUSED,
-        UNUSED,
-        UNUSED,
-    ],
-};
+pub const BANK_GEAR_DIAGNOSTICS: [BankField; 28] = [
+    META_0,
+    META_1,
+    META_2,
+    BankField {
+        offset: 0x03,
+        width: ValueWidth::U8,
+    },
+    BankField {
+        offset: 0x04,
+        width: ValueWidth::U32,
+    },
+    BankField {
+        offset: 0x08,
+        width: ValueWidth::U24,
+    },
+    BankField {
+        offset: 0x0B,
+        width: ValueWidth::U16,
+    },
+    BankField {
+        offset: 0x0D,
+        width: ValueWidth::U8,
+    },
+    BankField {
+        offset: 0x0E,
+        width: ValueWidth::U8,
+    },
+    BankField {
+        offset: 0x0F,
+        width: ValueWidth::U8,
+    },
+    BankField {
+        offset: 0x10,
+        width: ValueWidth::U8,
+    },
+    BankField {
+        offset: 0x11,
+        width: ValueWidth::U8,
+    },
+    BankField {
+        offset: 0x12,
+        width: ValueWidth::U8,
+    },
+    BankField {
+        offset: 0x13,
+        width: ValueWidth::U8,
+    },
+    BankField {
+        offset: 0x14,
+        width: ValueWidth::U8,
+    },
+    BankField {
+        offset: 0x15,
+        width: ValueWidth::U8,
+    },
+    BankField {
+        offset: 0x16,
+        width: ValueWidth::U8,
+    },
+    BankField {
+        offset: 0x17,
+        width: ValueWidth::U8,
+    },
+    BankField {
+        offset: 0x18,
+        width: ValueWidth::U8,
+    },
+    BankField {
+        offset: 0x19,
+        width: ValueWidth::U8,
+    },
+    BankField {
+        offset: 0x1A,
+        width: ValueWidth::U8,
+    },
+    BankField {
+        offset: 0x1B,
+        width: ValueWidth::U8,
+    },
+    BankField {
+        offset: 0x1C,
+        width: ValueWidth::U8,
+    },
+    UNUSED,
+    UNUSED,
+    UNUSED,
+    UNUSED,
+    UNUSED,
+];
 
 // DiiA 253 §9.2.17
-pub const BANK_SOURCE_DIAGNOSTICS: FieldMap = FieldMap {
-    len: 21,
-    fields: [
-        META_0,
-        META_1,
-        META_2,
-        BankField {
-            offset: 0x03,
-            width: ValueWidth::U8,
-        },
-        BankField {
-            offset: 0x04,
-            width: ValueWidth::U24,
-        },
-        BankField {
-            offset: 0x07,
-            width: ValueWidth::U24,
-        },
-        BankField {
-            offset: 0x0A,
-            width: ValueWidth::U32,
-        },
-        BankField {
-            offset: 0x0E,
-            width: ValueWidth::U32,
-        },
-        BankField {
-            offset: 0x12,
-            width: ValueWidth::U16,
-        },
-        BankField {
-            offset: 0x14,
-            width: ValueWidth::U16,
-        },
-        BankField {
-            offset: 0x16,
-            width: ValueWidth::U8,
-        },
-        BankField {
-            offset: 0x17,
-            width: ValueWidth::U8,
-        },
-        BankField {
-            offset: 0x18,
-            width: ValueWidth::U8,
-        },
-        BankField {
-            offset: 0x19,
-            width: ValueWidth::U8,
-        },
-        BankField {
-            offset: 0x1A,
-            width: ValueWidth::U8,
-        },
-        BankField {
-            offset: 0x1B,
-            width: ValueWidth::U8,
-        },
-        BankField {
-            offset: 0x1C,
-            width: ValueWidth::U8,
-        },
-        BankField {
-            offset: 0x1D,
-            width: ValueWidth::U8,
-        },
-        BankField {
-            offset: 0x1E,
-            width: ValueWidth::U8,
-        },
-        BankField {
-            offset: 0x1F,
-            width: ValueWidth::U8,
-        },
-        BankField {
-            offset: 0x20,
-            width: ValueWidth::U8,
-        },
-        UNUSED,
-        UNUSED,
-        UNUSED,
-        UNUSED,
-        UNUSED,
-        UNUSED,
-        UNUSED,
-    ],
-};
+pub const BANK_SOURCE_DIAGNOSTICS: [BankField; 28] = [
+    META_0,
+    META_1,
+    META_2,
+    BankField {
+        offset: 0x03,
+        width: ValueWidth::U8,
+    },
+    BankField {
+        offset: 0x04,
+        width: ValueWidth::U24,
+    },
+    BankField {
+        offset: 0x07,
+        width: ValueWidth::U24,
+    },
+    BankField {
+        offset: 0x0A,
+        width: ValueWidth::U32,
+    },
+    BankField {
+        offset: 0x0E,
+        width: ValueWidth::U32,
+    },
+    BankField {
+        offset: 0x12,
+        width: ValueWidth::U16,
+    },
+    BankField {
+        offset: 0x14,
+        width: ValueWidth::U16,
+    },
+    BankField {
+        offset: 0x16,
+        width: ValueWidth::U8,
+    },
+    BankField {
+        offset: 0x17,
+        width: ValueWidth::U8,
+    },
+    BankField {
+        offset: 0x18,
+        width: ValueWidth::U8,
+    },
+    BankField {
+        offset: 0x19,
+        width: ValueWidth::U8,
+    },
+    BankField {
+        offset: 0x1A,
+        width: ValueWidth::U8,
+    },
+    BankField {
+        offset: 0x1B,
+        width: ValueWidth::U8,
+    },
+    BankField {
+        offset: 0x1C,
+        width: ValueWidth::U8,
+    },
+    BankField {
+        offset: 0x1D,
+        width: ValueWidth::U8,
+    },
+    BankField {
+        offset: 0x1E,
+        width: ValueWidth::U8,
+    },
+    BankField {
+        offset: 0x1F,
+        width: ValueWidth::U8,
+    },
+    BankField {
+        offset: 0x20,
+        width: ValueWidth::U8,
+    },
+    UNUSED,
+    UNUSED,
+    UNUSED,
+    UNUSED,
+    UNUSED,
+    UNUSED,
+    UNUSED,
+];
 
 // DiiA 253 §9.2.18
-pub const BANK_LUMINAIRE: FieldMap = FieldMap {
-    len: 7,
-    fields: [
-        META_0,
-        META_1,
-        META_2,
-        BankField {
-            offset: 0x03,
-            width: ValueWidth::U8,
-        },
-        BankField {
-            offset: 0x04,
-            width: ValueWidth::U8,
-        },
-        BankField {
-            offset: 0x05,
-            width: ValueWidth::U8,
-        },
-        BankField {
-            offset: 0x06,
-            width: ValueWidth::U16,
-        },
-        UNUSED,
-        UNUSED,
-        UNUSED,
-        UNUSED,
-        UNUSED,
-        UNUSED,
-        UNUSED,
-        UNUSED,
-        UNUSED,
-        UNUSED,
-        UNUSED,
-        UNUSED,
-        UNUSED,
-        UNUSED,
-        UNUSED,
-        UNUSED,
-        UNUSED,
-        UNUSED,
-        UNUSED,
-        UNUSED,
-        UNUSED,
-    ],
-};
+pub const BANK_LUMINAIRE: [BankField; 28] = [
+    META_0,
+    META_1,
+    META_2,
+    BankField {
+        offset: 0x03,
+        width: ValueWidth::U8,
+    },
+    BankField {
+        offset: 0x04,
+        width: ValueWidth::U8,
+    },
+    BankField {
+        offset: 0x05,
+        width: ValueWidth::U8,
+    },
+    BankField {
+        offset: 0x06,
+        width: ValueWidth::U16,
+    },
+    UNUSED,
+    UNUSED,
+    UNUSED,
+    UNUSED,
+    UNUSED,
+    UNUSED,
+    UNUSED,
+    UNUSED,
+    UNUSED,
+    UNUSED,
+    UNUSED,
+    UNUSED,
+    UNUSED,
+    UNUSED,
+    UNUSED,
+    UNUSED,
+    UNUSED,
+    UNUSED,
+    UNUSED,
+    UNUSED,
+    UNUSED,
+];
 
 pub const DEVICE_TYPE_ENERGY: u8 = 51;
 
@@ -407,31 +395,46 @@ pub enum BankMap {
 pub fn luminaire_info_map() -> FieldMap
     ensures { λ r. ⌜ r ≡ tableOf BankMap.LuminaireInfo ⌝ }
 {
-    BANK_LUMINAIRE_INFO_MAP
+    FieldMap {
+        len: 28,
+        fields: BANK_LUMINAIRE_INFO_MAP,
+    }
 }
 
 pub fn energy_map() -> FieldMap
     ensures { λ r. ⌜ r ≡ tableOf BankMap.Energy ⌝ }
 {
-    BANK_ENERGY
+    FieldMap {
+        len: 8,
+        fields: BANK_ENERGY,
+    }
 }
 
 pub fn gear_diagnostics_map() -> FieldMap
     ensures { λ r. ⌜ r ≡ tableOf BankMap.GearDiagnostics ⌝ }
 {
-    BANK_GEAR_DIAGNOSTICS
+    FieldMap {
+        len: 23,
+        fields: BANK_GEAR_DIAGNOSTICS,
+    }
 }
 
 pub fn source_diagnostics_map() -> FieldMap
     ensures { λ r. ⌜ r ≡ tableOf BankMap.SourceDiagnostics ⌝ }
 {
-    BANK_SOURCE_DIAGNOSTICS
+    FieldMap {
+        len: 21,
+        fields: BANK_SOURCE_DIAGNOSTICS,
+    }
 }
 
 pub fn maintenance_map() -> FieldMap
     ensures { λ r. ⌜ r ≡ tableOf BankMap.Maintenance ⌝ }
 {
-    BANK_LUMINAIRE
+    FieldMap {
+        len: 7,
+        fields: BANK_LUMINAIRE,
+    }
 }
 
 // The map of a bank, by its number.

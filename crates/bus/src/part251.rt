@@ -1,7 +1,6 @@
 // Bank 1 (part251.rs, IEC 62386-251): its formats, its map and its texts.
 use crate::ValueWidth;
 use crate::layout::BankField;
-use crate::layout::FieldMap;
 ghost use mathlib.Core.Path.{_≡_};
 ghost use Rattle.bus.specs.Options.{optionLuminaireFormat};
 ghost use Rattle.bus.specs.Part251.{idOf, formatOf, minLastOffset, hasLightDistribution, hasExtendedBlock};
@@ -93,123 +92,120 @@ pub const CCT_OFFSET: u8 = 0x21;
 pub const LIGHT_DISTRIBUTION_TYPE_OFFSET: u8 = 0x23;
 
 // IEC 62386-251
-pub const BANK_LUMINAIRE_INFO_MAP: FieldMap = FieldMap {
-    len: 28,
-    fields: [
-        BankField {
-            offset: 0x00,
-            width: ValueWidth::U8,
-        },
-        BankField {
-            offset: 0x01,
-            width: ValueWidth::U8,
-        },
-        BankField {
-            offset: 0x02,
-            width: ValueWidth::U8,
-        },
-        BankField {
-            offset: 0x03,
-            width: ValueWidth::U8,
-        },
-        BankField {
-            offset: 0x04,
-            width: ValueWidth::U8,
-        },
-        BankField {
-            offset: 0x05,
-            width: ValueWidth::U8,
-        },
-        BankField {
-            offset: 0x06,
-            width: ValueWidth::U8,
-        },
-        BankField {
-            offset: 0x07,
-            width: ValueWidth::U8,
-        },
-        BankField {
-            offset: 0x08,
-            width: ValueWidth::U8,
-        },
-        BankField {
-            offset: 0x09,
-            width: ValueWidth::U8,
-        },
-        BankField {
-            offset: 0x0A,
-            width: ValueWidth::U8,
-        },
-        BankField {
-            offset: 0x0B,
-            width: ValueWidth::U8,
-        },
-        BankField {
-            offset: 0x0C,
-            width: ValueWidth::U8,
-        },
-        BankField {
-            offset: 0x0D,
-            width: ValueWidth::U8,
-        },
-        BankField {
-            offset: 0x0E,
-            width: ValueWidth::U8,
-        },
-        BankField {
-            offset: 0x0F,
-            width: ValueWidth::U8,
-        },
-        BankField {
-            offset: 0x10,
-            width: ValueWidth::U8,
-        },
-        BankField {
-            offset: CONTENT_FORMAT_ID_OFFSET,
-            width: ValueWidth::U16,
-        },
-        BankField {
-            offset: YEAR_OFFSET,
-            width: ValueWidth::U8,
-        },
-        BankField {
-            offset: WEEK_OFFSET,
-            width: ValueWidth::U8,
-        },
-        BankField {
-            offset: NOMINAL_INPUT_POWER_OFFSET,
-            width: ValueWidth::U16,
-        },
-        BankField {
-            offset: POWER_AT_MINIMUM_OFFSET,
-            width: ValueWidth::U16,
-        },
-        BankField {
-            offset: NOMINAL_MIN_AC_VOLTAGE_OFFSET,
-            width: ValueWidth::U16,
-        },
-        BankField {
-            offset: NOMINAL_MAX_AC_VOLTAGE_OFFSET,
-            width: ValueWidth::U16,
-        },
-        BankField {
-            offset: NOMINAL_LIGHT_OUTPUT_OFFSET,
-            width: ValueWidth::U24,
-        },
-        BankField {
-            offset: CRI_OFFSET,
-            width: ValueWidth::U8,
-        },
-        BankField {
-            offset: CCT_OFFSET,
-            width: ValueWidth::U16,
-        },
-        BankField {
-            offset: LIGHT_DISTRIBUTION_TYPE_OFFSET,
-            width: ValueWidth::U8,
-        },
-    ],
-};
+pub const BANK_LUMINAIRE_INFO_MAP: [BankField; 28] = [
+    BankField {
+        offset: 0x00,
+        width: ValueWidth::U8,
+    },
+    BankField {
+        offset: 0x01,
+        width: ValueWidth::U8,
+    },
+    BankField {
+        offset: 0x02,
+        width: ValueWidth::U8,
+    },
+    BankField {
+        offset: 0x03,
+        width: ValueWidth::U8,
+    },
+    BankField {
+        offset: 0x04,
+        width: ValueWidth::U8,
+    },
+    BankField {
+        offset: 0x05,
+        width: ValueWidth::U8,
+    },
+    BankField {
+        offset: 0x06,
+        width: ValueWidth::U8,
+    },
+    BankField {
+        offset: 0x07,
+        width: ValueWidth::U8,
+    },
+    BankField {
+        offset: 0x08,
+        width: ValueWidth::U8,
+    },
+    BankField {
+        offset: 0x09,
+        width: ValueWidth::U8,
+    },
+    BankField {
+        offset: 0x0A,
+        width: ValueWidth::U8,
+    },
+    BankField {
+        offset: 0x0B,
+        width: ValueWidth::U8,
+    },
+    BankField {
+        offset: 0x0C,
+        width: ValueWidth::U8,
+    },
+    BankField {
+        offset: 0x0D,
+        width: ValueWidth::U8,
+    },
+    BankField {
+        offset: 0x0E,
+        width: ValueWidth::U8,
+    },
+    BankField {
+        offset: 0x0F,
+        width: ValueWidth::U8,
+    },
+    BankField {
+        offset: 0x10,
+        width: ValueWidth::U8,
+    },
+    BankField {
+        offset: CONTENT_FORMAT_ID_OFFSET,
+        width: ValueWidth::U16,
+    },
+    BankField {
+        offset: YEAR_OFFSET,
+        width: ValueWidth::U8,
+    },
+    BankField {
+        offset: WEEK_OFFSET,
+        width: ValueWidth::U8,
+    },
+    BankField {
+        offset: NOMINAL_INPUT_POWER_OFFSET,
+        width: ValueWidth::U16,
+    },
+    BankField {
+        offset: POWER_AT_MINIMUM_OFFSET,
+        width: ValueWidth::U16,
+    },
+    BankField {
+        offset: NOMINAL_MIN_AC_VOLTAGE_OFFSET,
+        width: ValueWidth::U16,
+    },
+    BankField {
+        offset: NOMINAL_MAX_AC_VOLTAGE_OFFSET,
+        width: ValueWidth::U16,
+    },
+    BankField {
+        offset: NOMINAL_LIGHT_OUTPUT_OFFSET,
+        width: ValueWidth::U24,
+    },
+    BankField {
+        offset: CRI_OFFSET,
+        width: ValueWidth::U8,
+    },
+    BankField {
+        offset: CCT_OFFSET,
+        width: ValueWidth::U16,
+    },
+    BankField {
+        offset: LIGHT_DISTRIBUTION_TYPE_OFFSET,
+        width: ValueWidth::U8,
+    },
+];
 
 pub struct TextRegion {
     pub offset: u8,

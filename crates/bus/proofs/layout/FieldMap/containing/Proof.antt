@@ -19,6 +19,7 @@ Inv-loop offset self i₀ i = firstWith (holds offset) (drop i (entries self)) �
 abbrev μ-loop : tie.MeasureT-loop
 μ-loop offset self i₀ i = self .len - i
 
+-- that the table's array has 28 elements is what owning it tells
 fits : (l : tie.At-loop Inv-loop μ-loop) → l .before .args .t1 .len ≤ length (l .before .args .t1 .fields)
 fits l =
     let room : length (l .before .args .t1 .fields) ≡ 28 = sym (length-map (l .before .args .t1 .fields) _) ∙ l .before .good .0 .1 .1 .1 .0 .1 .0 .1 in

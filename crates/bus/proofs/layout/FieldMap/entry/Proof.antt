@@ -15,6 +15,7 @@ mul-t7 c = search needs
 element-copy-out-t10 : tie.Need-element-copy-out-t10
 element-copy-out-t10 c = search needs
 
+-- that the table's array has 28 elements is what owning it tells
 returns : tie.Need-returns
 returns c =
     let a = c .before .before .args in
