@@ -14,6 +14,13 @@ use Rattle.bus.specs.Maps.{firstWith}
 use Rattle.bus.proofs.Tests.{by-test}
 
 module _ {A : Type 0} where
+  -- where there is none, there is no element
+  pub no-element : {B : Type 0} {x : A} → none ≡ some x → B
+  no-element e =
+      let z : _≡_ {A = ℕ} 0 1 = cc in
+      let y : ⊥ = omega arith in
+      absurd y
+
   pub entry-in : (xs : List A) (n i : ℕ) (d : A) → i < n → n ≤ length xs → some (getD xs i d) ≡ getElem? (take n xs) i
   entry-in xs zero i d h k = absurd (not-suc-le-zero h)
   entry-in [] (suc n) i d h k = absurd (not-suc-le-zero k)
@@ -48,10 +55,7 @@ module _ {A : Type 0} where
   -- the element found passes the test
   pub first-passes : (p : A → Bool) {x : A} (xs : List A) → firstWith p xs ≡ some x → p x ≡ true
   unfolding firstWith
-  first-passes p [] e =
-      let z : _≡_ {A = ℕ} 0 1 = cc in
-      let y : ⊥ = omega arith in
-      absurd y
+  first-passes p [] e = no-element e
   first-passes p {x} (y ∷ ys) e =
       by-test (p y)
       (λ t.

@@ -17,7 +17,7 @@ use Rattle.bus.specs.declared.layout.BankMap.{BankMap}
 use Rattle.bus.specs.declared.layout.BankMap.the-variants.{LuminaireInfo, Energy, GearDiagnostics, SourceDiagnostics, Maintenance, Missing}
 use Rattle.bus.specs.Maps.{tableOf, entries, mapAt, mapOf, fields, mapEnd, endOf, holds, firstWith, EveryMapContiguous, EveryOffsetFound}
 use Rattle.bus.proofs.Tests.{and-left, and-right, by-test}
-use Rattle.bus.proofs.Lists.{first-passes}
+use Rattle.bus.proofs.Lists.{no-element, first-passes}
 
 -- which map a bank has, where its number is no single one
 pub energy-bank : (bank : ℕ) → 202 ≤ bank → bank < 205 → Energy ≡ mapAt bank
@@ -69,13 +69,6 @@ every-map SourceDiagnostics = tt
 every-map Maintenance = tt
 every-map Missing = tt
 
--- no field stands in an empty list
-no-field : {A : Type 0} {x : BankField} → none ≡ some x → A
-no-field e =
-    let z : _≡_ {A = ℕ} 0 1 = cc in
-    let y : ⊥ = omega arith in
-    absurd y
-
 -- which bytes a field holds
 held : (o : ℕ) (x : BankField) → x .offset ≤ o → o < endOf x → holds o x ≡ true
 held o x h k = rw (le-leb (x .offset) o h, lt-ltb o (endOf x) k)
@@ -92,24 +85,24 @@ module _ (end : ℕ) where
   behind o x xs t = and-right (eqb (x .offset) o) (runs end (endOf x) xs) t
 
   starts : {x : BankField} (o : ℕ) (xs : List BankField) → T (runs end o xs) → getElem? xs zero ≡ some x → x .offset ≡ o
-  starts o [] t e = no-field e
+  starts o [] t e = no-element e
   starts {x} o (y ∷ ys) t e =
       let same : x ≡ y = cc in
       ap (λ (z : BankField). z .offset) same ∙ here o y ys t
 
   follows : {x y : BankField} (o : ℕ) (xs : List BankField) → T (runs end o xs) → (i : ℕ) → getElem? xs i ≡ some x → getElem? xs (suc i) ≡ some y → y .offset ≡ endOf x
-  follows o [] t i e f = no-field e
+  follows o [] t i e f = no-element e
   follows {x} o (z ∷ zs) t zero e f =
       let same : z ≡ x = cc in
       starts (endOf z) zs (behind o z zs t) f ∙ ap endOf same
   follows o (z ∷ zs) t (suc i) e f = follows (endOf z) zs (behind o z zs t) i e f
 
   ends : {x : BankField} (o : ℕ) (xs : List BankField) → T (runs end o xs) → (i : ℕ) → getElem? xs i ≡ some x → getElem? xs (suc i) ≡ none → endOf x ≡ end
-  ends o [] t i e f = no-field e
+  ends o [] t i e f = no-element e
   ends {x} o (z ∷ []) t zero e f =
       let same : x ≡ z = cc in
       ap endOf same ∙ eqb→eq (endOf z) end (behind o z [] t)
-  ends o (z ∷ y ∷ zs) t zero e f = no-field (sym f)
+  ends o (z ∷ y ∷ zs) t zero e f = no-element (sym f)
   ends o (z ∷ zs) t (suc i) e f = ends (endOf z) zs (behind o z zs t) i e f
 
   reaches : (o : ℕ) (xs : List BankField) → T (runs end o xs) → o ≤ end
@@ -131,7 +124,7 @@ module _ (end : ℕ) where
       by-test (ltb o (endOf x))
       (λ l.
       let starts-here : x .offset ≤ o = omega (arith, here from x xs t) in
-      no-field (sym (rw (held o x starts-here (ltb-true o (endOf x) l)) at e)))
+      no-element (sym (rw (held o x starts-here (ltb-true o (endOf x) l)) at e)))
       (λ l.
       let past : endOf x ≤ o = ltb-false o (endOf x) l in
       none-only-behind o (endOf x) xs (behind from x xs t) past (rw (not-held o x past) at e))
