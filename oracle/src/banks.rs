@@ -62,8 +62,7 @@ impl Put for ValueWidth {
 
 impl Take for ValueWidth {
     fn take(args: &mut Args) -> Option<Self> {
-        let place: u8 = args.take()?;
-        WIDTHS.get(usize::from(place)).copied()
+        args.one_of(&WIDTHS)
     }
 }
 

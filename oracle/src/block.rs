@@ -17,6 +17,11 @@ pub fn add_line(block: &mut Vec<u8>, line: &[u8]) {
     block.push(b'\n');
 }
 
+/// Fills the block up with empty lines.
+pub fn fill_up(block: &mut Vec<u8>) {
+    block.resize(BLOCK_LEN, b'\n');
+}
+
 pub fn requests(block: &[u8]) -> impl Iterator<Item = &[u8]> {
     let lines = block.split(|byte| *byte == b'\n');
     lines.filter(|line| !line.is_empty())
@@ -29,7 +34,7 @@ pub fn read_block(input: &mut impl Read) -> io::Result<Vec<u8>> {
     Ok(block)
 }
 
-/// The Rust's answers to a block, a line each.
+/// The Rust's answers to a block or several, a line each.
 pub fn answers(block: &[u8]) -> io::Result<Vec<u8>> {
     let mut answers = Vec::new();
     let mut line = Line::default();

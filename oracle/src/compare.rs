@@ -3,9 +3,8 @@
 use std::io::{self, BufRead, BufReader, Read, Write};
 use std::process::{Child, ChildStdin, ChildStdout, Command, Stdio};
 
-use crate::block::{add_line, has_room, requests, BLOCK_LEN};
-use crate::function::{answer, function_of, functions, Scale, Source};
-use crate::line::Line;
+use crate::block::{add_line, answers, fill_up, has_room, requests, BLOCK_LEN};
+use crate::function::{function_of, functions, Scale, Source};
 
 pub fn compare(program: &str, seed: u64) -> io::Result<()> {
     println!("seed {seed}");
@@ -56,19 +55,17 @@ impl Comparison {
         Ok(())
     }
 
-    /// Sends the block, then reads the answers to it. The program reads a block whole before it answers, so neither
-    /// side waits on a full pipe that the other does not read.
+    /// Sends the block, and answers it from the Rust while the program does. The program reads a block whole before it
+    /// answers, so neither side waits on a full pipe that the other does not read.
     fn exchange(&mut self) -> io::Result<()> {
-        self.block.resize(BLOCK_LEN, b'\n');
+        fill_up(&mut self.block);
         self.stdin.write_all(&self.block).map_err(|error| failed("the program stopped reading", error))?;
-        let mut rust = Line::default();
+        let rust = answers(&self.block)?;
         let mut theirs = Vec::new();
-        for request in requests(&self.block) {
-            rust.clear();
-            answer(request, &mut rust)?;
+        for (request, rust) in requests(&self.block).zip(rust.split(|byte| *byte == b'\n')) {
             theirs.clear();
             self.stdout.read_until(b'\n', &mut theirs)?;
-            check(request, rust.text(), &theirs)?;
+            check(request, rust, &theirs)?;
         }
         self.block.clear();
         Ok(())

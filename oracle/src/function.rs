@@ -4,14 +4,14 @@ use std::io;
 
 use crate::line::{Args, Line, Put, Take};
 use crate::rng::Rng;
-use crate::{banks, layout, part251};
+use crate::{banks, layout, luminaire_write, part251, read_out};
 
 /// How many cases to make.
 #[derive(Clone, Copy)]
 pub enum Scale {
     /// For `compare`: whole domains as far as they go, and many random cases.
     Full,
-    /// For `list`: every edge, as one block has room for.
+    /// For `list`: every edge, and few cases between.
     List,
 }
 
@@ -47,14 +47,24 @@ pub struct Row<A, R> {
     name: &'static str,
     answer: fn(A) -> R,
     all: fn(&mut Source) -> Vec<A>,
+    domain: Option<fn() -> Cases<A>>,
     random: Option<fn(&mut Source) -> A>,
 }
+
+/// Cases that are made one at a time.
+pub type Cases<A> = Box<dyn Iterator<Item = A>>;
 
 impl<A, R> Row<A, R> {
     /// `all` makes the cases that every run has: a whole domain, or its edges.
     pub const fn new(number: u8, name: &'static str, answer: fn(A) -> R, all: fn(&mut Source) -> Vec<A>) -> Self {
-        let random = None;
-        Self { number, name, answer, all, random }
+        let (domain, random) = (None, None);
+        Self { number, name, answer, all, domain, random }
+    }
+
+    /// Adds, at full scale, a domain that is too large to be held at once.
+    pub const fn domain(mut self, domain: fn() -> Cases<A>) -> Self {
+        self.domain = Some(domain);
+        self
     }
 
     /// Adds random cases, each made by `random`.
@@ -101,6 +111,9 @@ impl<A: Put + Take, R: Put> Function for Row<A, R> {
             ask(request.text())
         };
         (self.all)(source).into_iter().try_for_each(&mut ask_case)?;
+        if let (Scale::Full, Some(domain)) = (source.scale, self.domain) {
+            domain().try_for_each(&mut ask_case)?;
+        }
         let Some(random) = self.random else {
             return Ok(());
         };
@@ -108,16 +121,20 @@ impl<A: Put + Take, R: Put> Function for Row<A, R> {
     }
 }
 
+/// The tables, each at the high digit of its numbers.
+const TABLES: [&[&dyn Function]; 5] =
+    [banks::FUNCTIONS, layout::FUNCTIONS, part251::FUNCTIONS, luminaire_write::FUNCTIONS, read_out::FUNCTIONS];
+
 /// Every function, in the order of the numbers.
 pub fn functions() -> impl Iterator<Item = &'static dyn Function> {
-    let tables = [banks::FUNCTIONS, layout::FUNCTIONS, part251::FUNCTIONS];
-    tables.into_iter().flatten().copied()
+    TABLES.into_iter().flatten().copied()
 }
 
 /// The function that a request asks.
 pub fn function_of(request: &[u8]) -> Option<&'static dyn Function> {
     let number: u8 = Args::new(request).take()?;
-    functions().find(|function| function.number() == number)
+    let table = TABLES.get(usize::from(number >> 4))?;
+    table.iter().copied().find(|function| function.number() == number)
 }
 
 /// Puts the Rust's answer to a request.

@@ -47,6 +47,12 @@ impl<'a> Args<'a> {
         T::take(self)
     }
 
+    /// The value whose place among these is the next byte.
+    pub fn one_of<T: Copy>(&mut self, values: &[T]) -> Option<T> {
+        let place: u8 = self.take()?;
+        values.get(usize::from(place)).copied()
+    }
+
     pub fn is_empty(&self) -> bool {
         self.digits.is_empty()
     }
@@ -97,7 +103,7 @@ macro_rules! numbers {
     )*};
 }
 
-numbers!(u8 u16 u64 usize);
+numbers!(u8 u16 u32 u64 usize);
 
 macro_rules! tuples {
     ($(($($member:ident)*))*) => {$(
@@ -117,7 +123,7 @@ macro_rules! tuples {
     )*};
 }
 
-tuples!((A B)(A B C));
+tuples!((A B)(A B C)(A B C D));
 
 impl Put for () {
     fn put(&self, _: &mut Line) {}
@@ -132,6 +138,12 @@ impl Take for () {
 impl Put for bool {
     fn put(&self, line: &mut Line) {
         line.put(&u8::from(*self));
+    }
+}
+
+impl Take for bool {
+    fn take(args: &mut Args) -> Option<Self> {
+        args.one_of(&[false, true])
     }
 }
 
@@ -154,6 +166,30 @@ impl<T: Put> Put for Option<T> {
         line.put(&self.is_some());
         if let Some(value) = self {
             line.put(value);
+        }
+    }
+}
+
+impl<T: Take> Take for Option<T> {
+    fn take(args: &mut Args) -> Option<Self> {
+        let some: bool = args.take()?;
+        if some {
+            args.take().map(Some)
+        } else {
+            Some(None)
+        }
+    }
+}
+
+/// A refusal puts its number, which is never 0.
+impl<T: Put, R: Put> Put for Result<T, R> {
+    fn put(&self, line: &mut Line) {
+        match self {
+            Ok(value) => {
+                line.put(&0u8);
+                line.put(value);
+            }
+            Err(refusal) => line.put(refusal),
         }
     }
 }
@@ -186,5 +222,26 @@ pub struct Output(pub Vec<u8>);
 impl Put for Output {
     fn put(&self, line: &mut Line) {
         line.bytes(&self.0);
+    }
+}
+
+/// Values without their number: in a request they go on to the end of the line.
+pub struct Sequence<T>(pub Vec<T>);
+
+impl<T: Put> Put for Sequence<T> {
+    fn put(&self, line: &mut Line) {
+        for value in &self.0 {
+            line.put(value);
+        }
+    }
+}
+
+impl<T: Take> Take for Sequence<T> {
+    fn take(args: &mut Args) -> Option<Self> {
+        let mut values = Vec::new();
+        while !args.is_empty() {
+            values.push(args.take()?);
+        }
+        Some(Self(values))
     }
 }

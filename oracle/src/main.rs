@@ -6,7 +6,9 @@ mod compare;
 mod function;
 mod layout;
 mod line;
+mod luminaire_write;
 mod part251;
+mod read_out;
 mod rng;
 
 use std::io::{self, Write};
@@ -15,7 +17,7 @@ use std::process::ExitCode;
 use std::time::{SystemTime, UNIX_EPOCH};
 use std::{env, fs};
 
-use block::{add_line, answers, read_block, BLOCK_LEN};
+use block::{add_line, answers, fill_up, has_room, read_block};
 use compare::compare;
 use function::{functions, Scale, Source};
 
@@ -53,18 +55,21 @@ fn seed_of_the_clock() -> u64 {
 
 fn list(dir: &Path) -> io::Result<()> {
     let mut source = Source::new(Scale::List, LIST_SEED);
+    let mut blocks = Vec::new();
     let mut block = Vec::new();
     for function in functions() {
         function.ask(&mut source, &mut |request| {
+            if !has_room(&block, request) {
+                fill_up(&mut block);
+                blocks.append(&mut block);
+            }
             add_line(&mut block, request);
             Ok(())
         })?;
     }
-    if block.len() > BLOCK_LEN {
-        return Err(io::Error::other("the list is longer than a block"));
-    }
-    fs::write(dir.join("stdin"), &block)?;
-    fs::write(dir.join("stdout"), answers(&block)?)
+    blocks.append(&mut block);
+    fs::write(dir.join("stdin"), &blocks)?;
+    fs::write(dir.join("stdout"), answers(&blocks)?)
 }
 
 /// Answers block by block, as `compare` asks.

@@ -33,24 +33,28 @@ module _ {A : Type 0} where
   entry-out (x ∷ xs) (suc n) zero h = absurd (not-suc-le-zero h)
   entry-out (x ∷ xs) (suc n) (suc i) h = entry-out xs n i (le-of-suc-le-suc h)
 
-  -- a search of the first n elements, from element i on
-  module _ (p : A → Bool) (xs : List A) (n i : ℕ) (d : A) (fits : n ≤ length xs) where
-    rest : i < n → drop i (take n xs) ≡ getD xs i d ∷ drop (i + 1) (take n xs)
-    rest h =
-        drop-cons (take n xs) i d (rw (length-take-le n xs fits) h)
-        ∙ rw (getD-take n xs i d h, add-one)
+  -- what is left of the first n elements, from element i on
+  pub rest : (xs : List A) (n i : ℕ) (d : A) → n ≤ length xs → i < n → drop i (take n xs) ≡ getD xs i d ∷ drop (i + 1) (take n xs)
+  rest xs n i d k h =
+      drop-cons (take n xs) i d (rw (length-take-le n xs k) h)
+      ∙ rw (getD-take n xs i d h, add-one)
 
+  pub no-rest : (xs : List A) (n i : ℕ) → n ≤ length xs → n ≤ i → drop i (take n xs) ≡ []
+  no-rest xs n i k h = drop-of-length-le (take n xs) {i = i} (rw (length-take-le n xs k) h)
+
+  -- a search there
+  module _ (p : A → Bool) (xs : List A) (n i : ℕ) (d : A) (fits : n ≤ length xs) where
     pub found : i < n → p (getD xs i d) ≡ true → firstWith p (drop i (take n xs)) ≡ some (getD xs i d)
     unfolding firstWith
-    found h e = rw (rest h, e)
+    found h e = rw (rest xs n i d fits h, e)
 
     pub passed : i < n → p (getD xs i d) ≡ false → firstWith p (drop i (take n xs)) ≡ firstWith p (drop (i + 1) (take n xs))
     unfolding firstWith
-    passed h e = rw (rest h, e)
+    passed h e = rw (rest xs n i d fits h, e)
 
     pub ended : n ≤ i → firstWith p (drop i (take n xs)) ≡ none
     unfolding firstWith
-    ended h = rw (drop-of-length-le (take n xs) {i = i} (rw (length-take-le n xs fits) h))
+    ended h = rw (no-rest xs n i fits h)
 
   -- the element found passes the test
   pub first-passes : (p : A → Bool) {x : A} (xs : List A) → firstWith p xs ≡ some x → p x ≡ true

@@ -5,7 +5,7 @@ use mathlib.Core.Bool.{Bool, true, false, _&&_, and-false}
 use mathlib.Core.List.{List, [], _∷_}
 use mathlib.Core.Option.{none, some}
 use Prim.Native.Nat.{ℕ, zero, suc, _≤_, _<_, zero-le}
-use native.Mathlib.Numerals.{add-one}
+use native.Mathlib.Nat.{le-add-right}
 use native.Mathlib.Omega.{arith}
 use lib.Dec.{T, ltb, eqb, eqb→eq, lit≤}
 use borrow.Author.Tests.{le-leb, lt-leb, le-ltb, lt-ltb, ltb-true, ltb-false, ne-eqb}
@@ -15,9 +15,11 @@ use Rattle.bus.specs.declared.layout.BankField.{BankField}
 use Rattle.bus.specs.declared.layout.FieldMap.{FieldMap}
 use Rattle.bus.specs.declared.layout.BankMap.{BankMap}
 use Rattle.bus.specs.declared.layout.BankMap.the-variants.{LuminaireInfo, Energy, GearDiagnostics, SourceDiagnostics, Maintenance, Missing}
-use Rattle.bus.specs.Maps.{tableOf, entries, mapAt, mapOf, fields, mapEnd, endOf, holds, firstWith, EveryMapContiguous, EveryOffsetFound}
+use Rattle.bus.specs.Width.{bytesOf}
+use Rattle.bus.specs.Maps.{tableOf, entries, mapAt, mapOf, fields, mapEnd, startOf, endOf, holds, firstWith, EveryMapContiguous, EveryOffsetFound}
 use Rattle.bus.proofs.Tests.{and-left, and-right, by-test}
 use Rattle.bus.proofs.Lists.{no-element, first-passes}
+use Rattle.bus.proofs.Contiguous.{runs, here, later, reaches, contiguous}
 
 -- which map a bank has, where its number is no single one
 pub energy-bank : (bank : ℕ) → 202 ≤ bank → bank < 205 → Energy ≡ mapAt bank
@@ -56,12 +58,8 @@ few-fields Missing = lit≤ tt
 pub table-fits : (m : BankMap) {t : FieldMap} → t ≡ tableOf m → t .len ≤ 28
 table-fits m e = rw e (few-fields m)
 
--- the test: each field starts where the one before it ends, the first at o, and the last one ends at end
-abbrev runs : ℕ → ℕ → List BankField → Bool
-runs end o [] = eqb o end
-runs end o (x ∷ xs) = eqb (x .offset) o && runs end (endOf x) xs
-
-every-map : (m : BankMap) → T (runs (mapEnd m) 0 (fields m))
+-- the test, for each map
+pub every-map : (m : BankMap) → T (runs startOf endOf (mapEnd m) 0 (fields m))
 every-map LuminaireInfo = tt
 every-map Energy = tt
 every-map GearDiagnostics = tt
@@ -76,71 +74,34 @@ held o x h k = rw (le-leb (x .offset) o h, lt-ltb o (endOf x) k)
 not-held : (o : ℕ) (x : BankField) → endOf x ≤ o → holds o x ≡ false
 not-held o x h = rw (le-ltb o (endOf x) h, and-false)
 
--- the rule at each entry of a list that passes the test
+-- a search along the fields from offset `from` on
 module _ (end : ℕ) where
-  here : (o : ℕ) (x : BankField) (xs : List BankField) → T (runs end o (x ∷ xs)) → x .offset ≡ o
-  here o x xs t = eqb→eq (x .offset) o (and-left (eqb (x .offset) o) (runs end (endOf x) xs) t)
-
-  behind : (o : ℕ) (x : BankField) (xs : List BankField) → T (runs end o (x ∷ xs)) → T (runs end (endOf x) xs)
-  behind o x xs t = and-right (eqb (x .offset) o) (runs end (endOf x) xs) t
-
-  starts : {x : BankField} (o : ℕ) (xs : List BankField) → T (runs end o xs) → getElem? xs zero ≡ some x → x .offset ≡ o
-  starts o [] t e = no-element e
-  starts {x} o (y ∷ ys) t e =
-      let same : x ≡ y = cc in
-      ap (λ (z : BankField). z .offset) same ∙ here o y ys t
-
-  follows : {x y : BankField} (o : ℕ) (xs : List BankField) → T (runs end o xs) → (i : ℕ) → getElem? xs i ≡ some x → getElem? xs (suc i) ≡ some y → y .offset ≡ endOf x
-  follows o [] t i e f = no-element e
-  follows {x} o (z ∷ zs) t zero e f =
-      let same : z ≡ x = cc in
-      starts (endOf z) zs (behind o z zs t) f ∙ ap endOf same
-  follows o (z ∷ zs) t (suc i) e f = follows (endOf z) zs (behind o z zs t) i e f
-
-  ends : {x : BankField} (o : ℕ) (xs : List BankField) → T (runs end o xs) → (i : ℕ) → getElem? xs i ≡ some x → getElem? xs (suc i) ≡ none → endOf x ≡ end
-  ends o [] t i e f = no-element e
-  ends {x} o (z ∷ []) t zero e f =
-      let same : x ≡ z = cc in
-      ap endOf same ∙ eqb→eq (endOf z) end (behind o z [] t)
-  ends o (z ∷ y ∷ zs) t zero e f = no-element (sym f)
-  ends o (z ∷ zs) t (suc i) e f = ends (endOf z) zs (behind o z zs t) i e f
-
-  reaches : (o : ℕ) (xs : List BankField) → T (runs end o xs) → o ≤ end
-  reaches o [] t = omega (arith, eqb→eq o end t)
-  reaches o (x ∷ xs) t = omega (arith, here o x xs t, reaches (endOf x) xs (behind o x xs t))
-
-  -- a search along the fields from offset `from` on
-  none-behind : (o from : ℕ) (xs : List BankField) → T (runs end from xs) → end ≤ o → firstWith (holds o) xs ≡ none
+  none-behind : (o from : ℕ) (xs : List BankField) → T (runs startOf endOf end from xs) → end ≤ o → firstWith (holds o) xs ≡ none
   unfolding firstWith
   none-behind o from [] t h = refl
   none-behind o from (x ∷ xs) t h =
-      let rest = behind from x xs t in
-      rw (not-held o x (omega (arith, reaches (endOf x) xs rest))) (none-behind o (endOf x) xs rest h)
+      let rest = later startOf endOf end from x xs t in
+      let ahead = reaches startOf endOf end (λ (y : BankField). le-add-right (y .offset) (bytesOf (y .width))) (endOf x) xs rest in
+      rw (not-held o x (omega arith)) (none-behind o (endOf x) xs rest h)
 
-  none-only-behind : (o from : ℕ) (xs : List BankField) → T (runs end from xs) → from ≤ o → firstWith (holds o) xs ≡ none → end ≤ o
+  none-only-behind : (o from : ℕ) (xs : List BankField) → T (runs startOf endOf end from xs) → from ≤ o → firstWith (holds o) xs ≡ none → end ≤ o
   unfolding firstWith
   none-only-behind o from [] t k e = omega (arith, eqb→eq from end t)
   none-only-behind o from (x ∷ xs) t k e =
       by-test (ltb o (endOf x))
       (λ l.
-      let starts-here : x .offset ≤ o = omega (arith, here from x xs t) in
+      let starts-here : x .offset ≤ o = omega (arith, here startOf endOf end from x xs t) in
       no-element (sym (rw (held o x starts-here (ltb-true o (endOf x) l)) at e)))
       (λ l.
       let past : endOf x ≤ o = ltb-false o (endOf x) l in
-      none-only-behind o (endOf x) xs (behind from x xs t) past (rw (not-held o x past) at e))
+      none-only-behind o (endOf x) xs (later startOf endOf end from x xs t) past (rw (not-held o x past) at e))
 
 pub every-map-contiguous : EveryMapContiguous
-every-map-contiguous bank =
-    let t : T (runs (mapEnd (mapAt bank)) 0 (mapOf bank)) = every-map (mapAt bank) in
-    record {
-      first = λ {x} e. starts (mapEnd (mapAt bank)) 0 (mapOf bank) t e;
-      next = λ {x} {y} i e f. follows (mapEnd (mapAt bank)) 0 (mapOf bank) t i e (rw add-one at f);
-      last = λ {x} i e f. ends (mapEnd (mapAt bank)) 0 (mapOf bank) t i e (rw add-one at f);
-    }
+every-map-contiguous bank = contiguous startOf endOf (mapEnd (mapAt bank)) 0 (mapOf bank) (every-map (mapAt bank))
 
 pub every-offset-found : EveryOffsetFound
 every-offset-found bank o =
-    let t : T (runs (mapEnd (mapAt bank)) 0 (mapOf bank)) = every-map (mapAt bank) in
+    let t : T (runs startOf endOf (mapEnd (mapAt bank)) 0 (mapOf bank)) = every-map (mapAt bank) in
     record {
       holds-it = λ {x} e. first-passes (holds o) (mapOf bank) e;
       none-behind = λ h. none-behind (mapEnd (mapAt bank)) o 0 (mapOf bank) t h;

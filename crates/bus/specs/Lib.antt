@@ -3,5 +3,6 @@ pub mod Options
 pub mod Number
 pub mod Width
 pub mod Value
+pub mod Contiguous
 pub mod Maps
 pub mod Part251

@@ -16,6 +16,7 @@ use Rattle.bus.specs.declared.layout.FieldMap.{FieldMap}
 use Rattle.bus.specs.declared.layout.BankMap.{BankMap}
 use Rattle.bus.specs.declared.layout.BankMap.the-variants.{LuminaireInfo, Energy, GearDiagnostics, SourceDiagnostics, Maintenance, Missing}
 use Rattle.bus.specs.Width.{bytesOf}
+use Rattle.bus.specs.Contiguous.{Contiguous}
 
 -- a field: its offset and its width
 abbrev f : ℕ → ValueWidth → BankField
@@ -99,7 +100,10 @@ mapAt bank =
 abbrev pub mapOf : ℕ → List BankField
 mapOf bank = fields (mapAt bank)
 
--- the offset behind a field's last byte
+-- a field's first offset, and the offset behind its last byte
+abbrev pub startOf : BankField → ℕ
+startOf x = x .offset
+
 abbrev pub endOf : BankField → ℕ
 endOf x = x .offset + bytesOf (x .width)
 
@@ -126,13 +130,8 @@ abbrev pub isBoundary : ℕ → ℕ → Bool
 isBoundary bank o = startsAt o (fieldContaining bank o)
 
 -- The fields of a bank lie one behind the other, from offset 0 to the end of its map.
-pub record Contiguous (bank : ℕ) : Type 0 where
-  pub first : {x : BankField} → getElem? (mapOf bank) 0 ≡ some x → x .offset ≡ 0
-  pub next : {x y : BankField} (i : ℕ) → getElem? (mapOf bank) i ≡ some x → getElem? (mapOf bank) (i + 1) ≡ some y → y .offset ≡ endOf x
-  pub last : {x : BankField} (i : ℕ) → getElem? (mapOf bank) i ≡ some x → getElem? (mapOf bank) (i + 1) ≡ none → endOf x ≡ mapEnd (mapAt bank)
-
 abbrev pub EveryMapContiguous : Type 0
-EveryMapContiguous = (bank : ℕ) → Contiguous bank
+EveryMapContiguous = (bank : ℕ) → Contiguous startOf endOf 0 (mapEnd (mapAt bank)) (mapOf bank)
 
 -- The field found for an offset holds it, and none is found exactly from the end of the map on.
 pub record Found (bank o : ℕ) : Type 0 where

@@ -20,45 +20,45 @@ idOf V5 = 5
 unfoldable pub formatOf : ℕ → Option LuminaireFormat
 formatOf id = firstWith (λ v. eqb id (idOf v)) (V3 ∷ V4 ∷ V5 ∷ [])
 
+-- "from format ..": that format and those behind it
+abbrev pub fromFormat : LuminaireFormat → LuminaireFormat → Bool
+fromFormat since v = leb (idOf since) (idOf v)
+
 -- a text field, and the first format that has it
 pub record TextField : Type 0 where
   pub region : TextRegion
-  pub since : ℕ
+  pub since : LuminaireFormat
 
-abbrev text : ℕ → ℕ → ℕ → TextField
+abbrev text : ℕ → ℕ → LuminaireFormat → TextField
 text o n since = record { region = record { offset = o; len = n }; since = since }
 
 -- "Text fields (offset hex, length): colour 24, 24; identification 3C, 60; distribution 78, 24, from format 4; and
 -- from format 5 OEM name 90, 32; stocking number B0, 16; free use C2, 8."
 abbrev pub colour : TextField
-colour = text 0x24 24 3
+colour = text 0x24 24 V3
 
 abbrev pub identification : TextField
-identification = text 0x3C 60 3
+identification = text 0x3C 60 V3
 
 abbrev pub distribution : TextField
-distribution = text 0x78 24 4
+distribution = text 0x78 24 V4
 
 abbrev pub oemName : TextField
-oemName = text 0x90 32 5
+oemName = text 0x90 32 V5
 
 abbrev pub stockingNumber : TextField
-stockingNumber = text 0xB0 16 5
+stockingNumber = text 0xB0 16 V5
 
 abbrev pub freeUse : TextField
-freeUse = text 0xC2 8 5
-
--- a format has the texts since it and since the formats before it
-abbrev pub inFormat : LuminaireFormat → TextField → Bool
-inFormat v t = leb (t .since) (idOf v)
+freeUse = text 0xC2 8 V5
 
 -- "distribution .. from format 4"
 abbrev pub hasLightDistribution : LuminaireFormat → Bool
-hasLightDistribution v = inFormat v distribution
+hasLightDistribution v = fromFormat (distribution .since) v
 
 -- "and from format 5 OEM name ..": the block that format 5 adds
 abbrev pub hasExtendedBlock : LuminaireFormat → Bool
-hasExtendedBlock v = inFormat v oemName
+hasExtendedBlock v = fromFormat (oemName .since) v
 
 -- the offset of a text field's last byte
 abbrev pub lastByte : TextField → ℕ

@@ -1,0 +1,29 @@
+-- Laws of printable texts: the test of a text from byte i on.
+-- Assumes nothing.
+use mathlib.Core.Path.{_≡_}
+use mathlib.Core.Bool.{true, false, _&&_, and-false}
+use mathlib.Core.List.{List, _∷_}
+use Prim.Native.Nat.{ℕ, _+_, _≤_, _<_}
+use native.Mathlib.Numerals.{add-one}
+use native.Mathlib.Omega.{arith}
+use borrow.Author.Tests.{le-leb, lt-leb}
+use lib.ListN.{length, getD, drop, drop-of-length-le}
+use lib.Seq.{drop-cons}
+use Rattle.bank.specs.Fields.{printable}
+
+module _ (bytes : List ℕ) (i : ℕ) where
+  pub too-low : i < length bytes → getD bytes i 0 < 0x20 → printable (drop i bytes) ≡ false
+  unfolding printable
+  too-low h l = rw (drop-cons bytes i 0 h, lt-leb 0x20 (getD bytes i 0) l)
+
+  pub too-high : i < length bytes → 0x7E < getD bytes i 0 → printable (drop i bytes) ≡ false
+  unfolding printable
+  too-high h l = rw (drop-cons bytes i 0 h, lt-leb (getD bytes i 0) 0x7E l, and-false)
+
+  pub next : i < length bytes → 0x20 ≤ getD bytes i 0 → getD bytes i 0 ≤ 0x7E → printable (drop i bytes) ≡ printable (drop (i + 1) bytes)
+  unfolding printable
+  next h l u = rw (drop-cons bytes i 0 h, le-leb 0x20 (getD bytes i 0) l, le-leb (getD bytes i 0) 0x7E u, add-one)
+
+  pub end : length bytes ≤ i → printable (drop i bytes) ≡ true
+  unfolding printable
+  end h = rw (drop-of-length-le bytes {i = i} h)

@@ -1,0 +1,35 @@
+-- `bank::luminaire_write::LuminaireField::of_index` meets its contract, by what `luminaire_fields` ensures.
+-- Assumes nothing.
+use mathlib.Core.Path.{_≡_, ap, _∙_}
+use mathlib.Core.List.{List}
+use native.Mathlib.Omega.{arith}
+use lib.Dec.{lit≤}
+use lib.ListN.{getD}
+use Rattle.bus.proofs.Lists.{entry-in, entry-out}
+use Rattle.bank.specs.declared.luminaire_write.LuminaireField.{LuminaireField}
+use Rattle.bank.specs.Options.{optionLuminaireField}
+use Rattle.bank.specs.Fields.{luminaireFields}
+use borrow.Author.Needs.{needs}
+use Rattle.bank.proofs.luminaire_write.LuminaireField.of_index.Statement.{statement}
+use Rattle.bank.proofs.luminaire_write.LuminaireField.of_index.Tie as tie
+
+luminaire-fields-requires : tie.Need-luminaire-fields-requires
+luminaire-fields-requires c κs = search needs
+
+mul-t6 : tie.Need-mul-t6
+mul-t6 c = search needs
+
+array-copy-out-t9 : tie.Need-array-copy-out-t9
+array-copy-out-t9 c = search needs
+
+returns : tie.Need-returns
+unfolding luminaireFields
+returns c = rw (c .before .before .luminaire-fields .ensures) (ap optionLuminaireField (entry-in luminaireFields 18 (c .before .before .before .args .index) _ (omega arith) (lit≤ tt)))
+
+returns-2 : tie.Need-returns-2
+unfolding luminaireFields
+returns-2 c = ap optionLuminaireField (entry-out luminaireFields 18 (c .before .before .args .index) (omega arith))
+
+pub of-index-spec : {M : Type 1} → statement M
+of-index-spec =
+    tie.close (tie.spec luminaire-fields-requires mul-t6 array-copy-out-t9 returns returns-2)

@@ -1,0 +1,95 @@
+-- `bank::luminaire_write::NumberRule::shows_back` meets its contract, rule by rule.
+-- Assumes nothing.
+use mathlib.Core.Path.{_∙_}
+use borrow.Author.Needs.{needs}
+use Rattle.bank.proofs.luminaire_write.NumberRule.shows_back.Statement.{statement}
+use Rattle.bank.proofs.luminaire_write.NumberRule.shows_back.Tie as tie
+
+enum-told : tie.Need-enum-told
+enum-told c = search needs
+
+enum-told-2 : tie.Need-enum-told-2
+enum-told-2 c = search needs
+
+is-between-requires : tie.Need-is-between-requires
+is-between-requires c κs = search needs
+
+enum-told-3 : tie.Need-enum-told-3
+enum-told-3 c = search needs
+
+enum-told-4 : tie.Need-enum-told-4
+enum-told-4 c = search needs
+
+is-between-requires-2 : tie.Need-is-between-requires-2
+is-between-requires-2 c κs = search needs
+
+enum-told-5 : tie.Need-enum-told-5
+enum-told-5 c = search needs
+
+enum-told-6 : tie.Need-enum-told-6
+enum-told-6 c = search needs
+
+enum-told-7 : tie.Need-enum-told-7
+enum-told-7 c = search needs
+
+enum-told-8 : tie.Need-enum-told-8
+enum-told-8 c = search needs
+
+is-distribution-type-requires : tie.Need-is-distribution-type-requires
+is-distribution-type-requires c κs = search needs
+
+enum-told-9 : tie.Need-enum-told-9
+enum-told-9 c = search needs
+
+returns : tie.Need-returns
+returns c = rw (c .enum-told .given .1)
+
+returns-2 : tie.Need-returns-2
+returns-2 c = c .is-between .ensures ∙ rw (c .before .enum-told2 .given .1)
+
+returns-3 : tie.Need-returns-3
+returns-3 c = rw (c .enum-told3 .given .1)
+
+returns-4 : tie.Need-returns-4
+returns-4 c = c .is-between2 .ensures ∙ rw (c .before .enum-told4 .given .1)
+
+returns-5 : tie.Need-returns-5
+returns-5 c = rw (c .enum-told5 .given .1)
+
+returns-6 : tie.Need-returns-6
+returns-6 c = rw (c .enum-told6 .given .1)
+
+returns-7 : tie.Need-returns-7
+returns-7 c = rw (c .enum-told7 .given .1)
+
+returns-8 : tie.Need-returns-8
+returns-8 c = c .is-distribution-type .ensures ∙ rw (c .before .enum-told8 .given .1)
+
+returns-9 : tie.Need-returns-9
+returns-9 c = rw (c .enum-told9 .given .1)
+
+pub shows-back-spec : {M : Type 1} → statement M
+shows-back-spec =
+    tie.close
+    (tie.spec
+    enum-told
+    enum-told-2
+    is-between-requires
+    enum-told-3
+    enum-told-4
+    is-between-requires-2
+    enum-told-5
+    enum-told-6
+    enum-told-7
+    enum-told-8
+    is-distribution-type-requires
+    enum-told-9
+    returns
+    returns-2
+    returns-3
+    returns-4
+    returns-5
+    returns-6
+    returns-7
+    returns-8
+    returns-9)

@@ -1,0 +1,112 @@
+-- `bank::luminaire_write::check_writable` meets its contract, check by check.
+-- Assumes nothing.
+use mathlib.Core.Path.{_≡_, sym, _∙_}
+use mathlib.Core.Bool.{false, not, cond}
+use mathlib.Core.Option.{none, some}
+use borrow.Author.Tests.{not-true, not-false}
+use Rattle.bus.specs.Part251.{fromFormat}
+use Rattle.bank.specs.declared.refusal.Refusal.the-variants.{FieldNotInFormat, TooShort}
+use Rattle.bank.specs.Refusal.{firstOf}
+use Rattle.bank.specs.Fields.{endsBy}
+use Rattle.bank.specs.Writable.{readOnly, missing, formatIn, writeChecks, checkWritable}
+use Rattle.bank.proofs.Options.{told-format}
+use borrow.Author.Needs.{needs}
+use Rattle.bank.proofs.luminaire_write.check_writable.Statement.{statement}
+use Rattle.bank.proofs.luminaire_write.check_writable.Tie as tie
+
+-- 1 does not apply
+writable : (c : tie.Else1) → readOnly (c .before .before .args .field .kind) ≡ false
+writable c = sym (c .before .is-layout-id .ensures) ∙ c .if1 .left
+
+-- nor 2
+there : (c : tie.Else2) → missing (c .before .before .before .before .args .layout .implemented) ≡ false
+there c = sym (c .before .is-missing .ensures) ∙ c .if2 .left
+
+-- nor 3 and 4: the last offset and the format are there, and 5 and 6 are left
+format-is : (c : tie.After-format2) → formatIn (c .before .before .before .before .before .before .before .before .before .before .args .layout .«content_format_id») ≡ some (c .format2 .given .0 .0)
+format-is c = told-format _ (c .before .before .format .ensures) (c .format2 .given .1)
+
+from-5 : (c : tie.After-format2)
+    → (let a = c .before .before .before .before .before .before .before .before .before .before .args in let last = c .before .before .before .before .last-offset .given .0 .0 in
+    firstOf (writeChecks (a .layout) (a .field))
+    ≡ cond (not (fromFormat (a .field .since) (c .format2 .given .0 .0))) (some FieldNotInFormat) (cond (not (endsBy (a .field) last)) (some TooShort) none))
+unfolding firstOf
+from-5 c = rw (writable (c .before .before .before .before .before .before .before .before), there (c .before .before .before .before .before .before), c .before .before .before .before .last-offset .given .1, format-is c)
+
+is-layout-id-requires : tie.Need-is-layout-id-requires
+is-layout-id-requires c κs = search needs
+
+returns : tie.Need-returns
+unfolding firstOf checkWritable
+returns c = rw (sym (c .before .is-layout-id .ensures) ∙ c .if1 .taken)
+
+is-missing-requires : tie.Need-is-missing-requires
+is-missing-requires c κs = search needs
+
+returns-2 : tie.Need-returns-2
+unfolding firstOf checkWritable
+returns-2 c = rw (writable (c .before .before), sym (c .before .is-missing .ensures) ∙ c .if2 .taken)
+
+enum-known-last-offset : tie.Need-enum-known-last-offset
+enum-known-last-offset c = search needs
+
+enum-told : tie.Need-enum-told
+enum-told c = search needs
+
+returns-3 : tie.Need-returns-3
+unfolding firstOf checkWritable
+returns-3 c = rw (writable (c .before .before .before .before), there (c .before .before), c .enum-told .given .1)
+
+format-requires : tie.Need-format-requires
+format-requires c κs = search needs
+
+enum-known-format : tie.Need-enum-known-format
+enum-known-format c = search needs
+
+enum-told-2 : tie.Need-enum-told-2
+enum-told-2 c = search needs
+
+returns-4 : tie.Need-returns-4
+unfolding firstOf checkWritable
+returns-4 c =
+    let a = c .before .before .before .before .before .before .before .before .before .before .args in
+    rw (writable (c .before .before .before .before .before .before .before .before), there (c .before .before .before .before .before .before), c .before .before .before .before .last-offset .given .1, told-format (formatIn (a .layout .«content_format_id»)) (c .before .before .format .ensures) (c .enum-told2 .given .1))
+
+in-format-requires : tie.Need-in-format-requires
+in-format-requires c κs = search needs
+
+returns-5 : tie.Need-returns-5
+unfolding checkWritable
+returns-5 c = rw (from-5 (c .before .before .before), sym (c .before .in-format .ensures) ∙ not-true _ (c .if3 .taken))
+
+ends-by-requires : tie.Need-ends-by-requires
+ends-by-requires c κs = search needs
+
+returns-6 : tie.Need-returns-6
+unfolding checkWritable
+returns-6 c = rw (from-5 (c .before .before .before .before .before), sym (c .before .before .before .in-format .ensures) ∙ not-false _ (c .before .before .if3 .left), sym (c .before .ends-by .ensures) ∙ not-true _ (c .if4 .taken))
+
+returns-7 : tie.Need-returns-7
+unfolding checkWritable
+returns-7 c = rw (from-5 (c .before .before .before .before .before), sym (c .before .before .before .in-format .ensures) ∙ not-false _ (c .before .before .if3 .left), sym (c .before .ends-by .ensures) ∙ not-false _ (c .if4 .left), format-is (c .before .before .before .before .before))
+
+pub check-writable-spec : {M : Type 1} → statement M
+check-writable-spec =
+    tie.close
+    (tie.spec
+    is-layout-id-requires
+    returns
+    is-missing-requires
+    returns-2
+    enum-known-last-offset
+    enum-told
+    returns-3
+    format-requires
+    enum-known-format
+    enum-told-2
+    returns-4
+    in-format-requires
+    returns-5
+    ends-by-requires
+    returns-6
+    returns-7)

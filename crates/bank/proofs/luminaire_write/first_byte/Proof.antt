@@ -1,0 +1,21 @@
+-- `bank::luminaire_write::first_byte` meets its contract.
+-- Assumes nothing.
+use mathlib.Core.Path.{ap, sym}
+use native.Mathlib.Omega.{arith}
+use Rattle.bus.specs.Options.{optionU8}
+use Rattle.bank.proofs.Header.{no-first, first}
+use borrow.Author.Needs.{needs}
+use Rattle.bank.proofs.luminaire_write.first_byte.Statement.{statement}
+use Rattle.bank.proofs.luminaire_write.first_byte.Tie as tie
+
+returns : tie.Need-returns
+returns c = ap optionU8 (sym (no-first (c .before .args .header .now) (c .if1 .taken)))
+
+shared-slice-read-t5 : tie.Need-shared-slice-read-t5
+shared-slice-read-t5 c = search needs
+
+returns-2 : tie.Need-returns-2
+returns-2 c = ap optionU8 (sym (first (c .before .before .args .header .now) (omega arith)))
+
+pub first-byte-spec : {M : Type 1} → statement M
+first-byte-spec = tie.close (tie.spec returns shared-slice-read-t5 returns-2)

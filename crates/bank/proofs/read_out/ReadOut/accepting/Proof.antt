@@ -1,0 +1,120 @@
+-- `bank::read_out::ReadOut::accepting` meets its contract: a refusal leaves the buffer, and an accepted chunk is laid in at
+-- the next offset.
+-- Assumes nothing.
+use mathlib.Core.Path.{_≡_, sym, ap, _∙_}
+use mathlib.Core.Option.{none}
+use Prim.Native.Nat.{ℕ, _+_, _-_, _≤_}
+use native.Mathlib.Omega.{arith}
+use lib.ListN.{length}
+use denote.Ref.{now}
+use Rattle.bank.specs.declared.read_out.ResultReadOut.the-variants.{Ok}
+use Rattle.bank.specs.Refusal.{firstOf}
+use Rattle.bank.specs.Chunk.{chunkLen}
+use Rattle.bank.specs.ReadOut.{advanced, wantChecks, wantedLen}
+use Rattle.bank.proofs.Options.{told-refusal}
+use Rattle.bank.proofs.Bounds.{chunk-len-bounded}
+use Rattle.bank.proofs.Reading.{fit, refuses-want, refuses-buffer, refuses-chunk, refuses-none, refused, taken}
+use borrow.Author.Needs.{needs}
+use Rattle.bank.proofs.read_out.ReadOut.accepting.Statement.{statement}
+use Rattle.bank.proofs.read_out.ReadOut.accepting.Tie as tie
+
+-- the read-out and the budget are not refused
+sound : (c : tie.After-enum-told) → (let a = c .before .before .before .before .before .args in firstOf (wantChecks (a .self) (a .budget)) ≡ none)
+sound c = told-refusal _ (c .before .before .refusal .ensures) (c .enum-told .given .1)
+
+-- the chunk has the length that is wanted, and ends within the read-out
+wanted : (c : tie.Else2) → (let a = c .before .before .before .before .before .before .before .before .before .before .args in length (now (a .chunk)) ≡ wantedLen chunkLen (a .self) (a .budget))
+wanted c = c .if2 .left ∙ c .before .chunk-len .ensures
+
+ends : (c : tie.Else2) → (let a = c .before .before .before .before .before .before .before .before .before .before .args in a .self .next + length (now (a .chunk)) ≤ a .self .length)
+ends c =
+    let a = c .before .before .before .before .before .before .before .before .before .before .args in
+    let r = a .self in
+    omega (arith, wanted c, fit r (a .budget) (sound (c .before .before .before .before .before)), chunk-len-bounded .within (r .bank) (r .next) (r .length - r .next) (a .budget))
+
+refusal-requires : tie.Need-refusal-requires
+refusal-requires c κs = search needs
+
+enum-known-refusal : tie.Need-enum-known-refusal
+enum-known-refusal c = search needs
+
+returns : tie.Need-returns
+returns c =
+    let a = c .before .before .before .before .before .before .args in
+    refused chunkLen (a .self) (a .budget) (now (a .chunk)) (now (a .buffer))
+    (refuses-want chunkLen (a .self) (a .budget) (now (a .chunk)) (now (a .buffer)) (told-refusal _ (c .before .before .before .refusal .ensures) (c .before .refusal2 .given .1)))
+
+enum-told : tie.Need-enum-told
+enum-told c = search needs
+
+cast-if1 : tie.Need-cast-if1
+cast-if1 c = search needs
+
+returns-2 : tie.Need-returns-2
+returns-2 c =
+    let a = c .before .before .before .before .before .before .before .args in
+    refused chunkLen (a .self) (a .budget) (now (a .chunk)) (now (a .buffer))
+    (refuses-buffer chunkLen (a .self) (a .budget) (now (a .chunk)) (now (a .buffer)) (sound (c .before .before)) (c .if1 .taken))
+
+sub-chunk-len : tie.Need-sub-chunk-len
+sub-chunk-len c =
+    let a = c .before .before .before .before .before .before .before .before .args in
+    fit (a .self) (a .budget) (sound (c .before .before .before)) .ahead
+
+chunk-len-requires : tie.Need-chunk-len-requires
+chunk-len-requires c κs = search needs
+
+cast-if2 : tie.Need-cast-if2
+cast-if2 c = search needs
+
+returns-3 : tie.Need-returns-3
+returns-3 c =
+    let a = c .before .before .before .before .before .before .before .before .before .before .args in
+    refused chunkLen (a .self) (a .budget) (now (a .chunk)) (now (a .buffer))
+    (refuses-chunk chunkLen (a .self) (a .budget) (now (a .chunk)) (now (a .buffer)) (sound (c .before .before .before .before .before)) (c .before .before .before .if1 .left)
+    (λ e. c .if2 .taken (e ∙ sym (c .before .chunk-len .ensures))))
+
+cast-copy-in : tie.Need-cast-copy-in
+cast-copy-in c = search needs
+
+copy-in-requires : tie.Need-copy-in-requires
+copy-in-requires c κs =
+    let e = c .before in
+    omega (arith, ends e, e .before .before .before .if1 .left)
+
+add-t13 : tie.Need-add-t13
+add-t13 c =
+    let e = c .before .before .before .before in
+    let a = e .before .before .before .before .before .before .before .before .before .before .args in
+    omega (arith, ends e, e .if2 .left, fit (a .self) (a .budget) (sound (e .before .before .before .before .before)))
+
+same-length : tie.Need-same-length
+same-length c = search needs
+
+returns-4 : tie.Need-returns-4
+returns-4 c =
+    let e = c .before .before .before .before in
+    let a = e .before .before .before .before .before .before .before .before .before .before .args in
+    let all = taken chunkLen (a .self) (a .budget) (now (a .chunk)) (now (a .buffer))
+    (refuses-none chunkLen (a .self) (a .budget) (now (a .chunk)) (now (a .buffer)) (sound (e .before .before .before .before .before)) (e .before .before .before .if1 .left) (wanted e)) in
+    (ap (λ (n : ℕ). Ok (advanced (a .self) n)) (sym (e .if2 .left)) ∙ all .0, c .before .before .copy-in .ensures ∙ all .1)
+
+pub accepting-spec : {M : Type 1} → statement M
+accepting-spec =
+    tie.close
+    (tie.spec
+    refusal-requires
+    enum-known-refusal
+    returns
+    enum-told
+    cast-if1
+    returns-2
+    sub-chunk-len
+    chunk-len-requires
+    cast-if2
+    returns-3
+    cast-copy-in
+    copy-in-requires
+    add-t13
+    same-length
+    returns-4)

@@ -1,0 +1,63 @@
+-- `bank::read_out::ReadOut::wanting` meets its contract, by the refusal that was found.
+-- Assumes nothing.
+use mathlib.Core.Path.{_≡_, sym, ap, _∙_}
+use mathlib.Core.Bool.{true, false}
+use mathlib.Core.Option.{none, some}
+use Rattle.bank.specs.declared.read_out.Wanted.the-variants.{Chunk}
+use Rattle.bank.specs.Refusal.{firstOf}
+use Rattle.bank.specs.ReadOut.{isDone, wantChecks, wanting}
+use Rattle.bank.proofs.Options.{told-refusal}
+use Rattle.bank.proofs.Reading.{fit}
+use borrow.Author.Needs.{needs}
+use Rattle.bank.proofs.read_out.ReadOut.wanting.Statement.{statement}
+use Rattle.bank.proofs.read_out.ReadOut.wanting.Tie as tie
+
+-- the read-out and the budget are not refused
+sound : (c : tie.After-enum-told) → (let a = c .before .before .before .args in firstOf (wantChecks (a .self) (a .budget)) ≡ none)
+sound c = told-refusal _ (c .before .before .refusal .ensures) (c .enum-told .given .1)
+
+refusal-requires : tie.Need-refusal-requires
+refusal-requires c κs = search needs
+
+enum-known-refusal : tie.Need-enum-known-refusal
+enum-known-refusal c = search needs
+
+enum-told : tie.Need-enum-told
+enum-told c = search needs
+
+done-requires : tie.Need-done-requires
+done-requires c κs = search needs
+
+returns : tie.Need-returns
+unfolding wanting
+returns c = rw (sound (c .before .before), sym (c .before .done .ensures) ∙ c .if1 .taken)
+
+sub-chunk-len : tie.Need-sub-chunk-len
+sub-chunk-len c =
+    let a = c .before .before .before .before .before .before .args in
+    fit (a .self) (a .budget) (sound (c .before .before .before)) .ahead
+
+chunk-len-requires : tie.Need-chunk-len-requires
+chunk-len-requires c κs = search needs
+
+returns-2 : tie.Need-returns-2
+unfolding wanting
+returns-2 c = rw (told-refusal (firstOf (wantChecks (c .before .before .before .before .args .self) (c .before .before .before .before .args .budget))) (c .before .before .before .refusal .ensures) (c .before .refusal2 .given .1))
+
+returns-3 : tie.Need-returns-3
+unfolding wanting
+returns-3 c = rw (sound (c .before .before .before .before), sym (c .before .before .before .done .ensures) ∙ c .before .before .if1 .left) (ap Chunk (c .chunk-len .ensures))
+
+pub wanting-spec : {M : Type 1} → statement M
+wanting-spec =
+    tie.close
+    (tie.spec
+    refusal-requires
+    enum-known-refusal
+    enum-told
+    done-requires
+    returns
+    sub-chunk-len
+    chunk-len-requires
+    returns-2
+    returns-3)

@@ -1,0 +1,113 @@
+-- 01, "Cases ([P]: proved)": one table, which `proofs/Cases.antt` proves as a whole.
+-- Assumes nothing.
+use mathlib.Core.Path.{_≡_}
+use mathlib.Core.Bool.{Bool, true, false, cond}
+use mathlib.Core.List.{List, [], _∷_, map}
+use mathlib.Core.Option.{Option, none, some}
+use Prim.Native.Nat.{ℕ, zero, suc}
+use lib.ListN.{getElem?}
+use Rattle.bus.specs.declared.OptionU8.{OptionU8}
+use Rattle.bus.specs.declared.ValueWidth.the-variants.{I8}
+use Rattle.bus.specs.declared.BankValue.{BankValue}
+use Rattle.bus.specs.declared.BankValue.the-variants.{Reading, NotImplemented, TemporarilyUnavailable}
+use Rattle.bus.specs.declared.part251.LuminaireFormat.the-variants.{V3, V4}
+use Rattle.bus.specs.Value.{classified, saturated}
+use Rattle.bank.specs.declared.OptionBool.{OptionBool}
+use Rattle.bank.specs.declared.OptionU16.{OptionU16}
+use Rattle.bank.specs.declared.part251.CctReading.{CctReading}
+use Rattle.bank.specs.declared.part251.CctReading.the-variants.{Kelvin, Part209Implemented}
+use Rattle.bank.specs.declared.part251.LightDistributionType.{LightDistributionType}
+use Rattle.bank.specs.declared.part251.LightDistributionType.the-variants.{«Type», Reserved}
+use Rattle.bank.specs.declared.read_out.ReadOut.{ReadOut}
+use Rattle.bank.specs.declared.luminaire_write.LuminaireField.{LuminaireField}
+use Rattle.bank.specs.declared.luminaire_write.Bank1Layout.{Bank1Layout}
+use Rattle.bank.specs.declared.luminaire_write.ResultLuminaireFormat.{ResultLuminaireFormat}
+use Rattle.bank.specs.declared.luminaire_write.ResultLuminaireFormat.the-variants.{Ok, Err}
+use Rattle.bank.specs.Refusal.{numberOf}
+use Rattle.bank.specs.Readings.{cctOf, typeOf}
+use Rattle.bank.specs.Fields.{luminaireFields, fromHeader}
+use Rattle.bank.specs.Writable.{checkWritable}
+use Rattle.bank.specs.Chunk.{chunkLen}
+use Rattle.bank.specs.ReadOut.{fresh, advanced, isDone, wantedLen}
+
+-- what a case speaks of: a number, the lengths of a read-out's chunks, a reading and whether it is saturated, a colour
+-- temperature, a distribution type
+pub data Answer : Type 0 where
+  number : ℕ → Answer
+  lengths : List ℕ → Answer
+  reading : BankValue → Bool → Answer
+  temperature : CctReading → Answer
+  type : LightDistributionType → Answer
+
+infix 70 _is_
+-- a case: what the definitions give, and what 01 says that it is
+pub record Case : Type 0 where
+  pub given : Answer
+  pub said : Answer
+
+abbrev _is_ : Answer → Answer → Case
+a is b = record { given = a; said = b }
+
+-- the lengths of the chunks of a read-out at one budget, at most so many of them
+abbrev chunks : ℕ → ReadOut → ℕ → List ℕ
+chunks zero r budget = []
+chunks (suc n) r budget =
+    let wanted = wantedLen chunkLen r budget in
+    cond (isDone r) [] (wanted ∷ chunks n (advanced r wanted) budget)
+
+abbrev readOut : ℕ → ℕ → ℕ → Answer
+readOut bank len budget = lengths (chunks len (fresh bank len) budget)
+
+abbrev signedByte : ℕ → Answer
+signedByte raw = reading (classified I8 raw) (saturated I8 (classified I8 raw))
+
+-- the number of a refusal, 0 for none
+abbrev refusalOf : ResultLuminaireFormat → ℕ
+refusalOf (Ok v) = 0
+refusalOf (Err r) = numberOf r
+
+abbrev writing : Option LuminaireField → Bank1Layout → Answer
+writing (some f) l = number (refusalOf (checkWritable l f))
+writing none l = number 0
+
+-- the second of the 18 fields
+abbrev fieldYear : Bank1Layout → Answer
+fieldYear l = writing (getElem? luminaireFields 1) l
+
+abbrev nothingRead : Bank1Layout
+nothingRead = record { implemented = OptionBool.None; «content_format_id» = OptionU16.None; «last_offset» = OptionU8.None }
+
+unfoldable pub cases : List Case
+cases =
+    -- "`chunk_len`(202, 5, 6, 4) = 6; (202, 5, 5, 4) = 4; (202, 6, 10, 8) = 8; (202, 5, 6, 0) = 6; (9, 0, 5, 0) = 0"
+    number (chunkLen 202 5 6 4) is number 6
+    ∷ number (chunkLen 202 5 5 4) is number 4
+    ∷ number (chunkLen 202 6 10 8) is number 8
+    ∷ number (chunkLen 202 5 6 0) is number 6
+    ∷ number (chunkLen 9 0 5 0) is number 0
+    -- "(1, 35, 10, 8) = 1; (1, 192, 10, 1) = 1"
+    ∷ number (chunkLen 1 35 10 8) is number 1
+    ∷ number (chunkLen 1 192 10 1) is number 1
+    -- "Bank 202, length 16: budget 5 gives 5, 6, 5; budget 8 gives 5, 7, 4"
+    ∷ readOut 202 16 5 is lengths (5 ∷ 6 ∷ 5 ∷ [])
+    ∷ readOut 202 16 8 is lengths (5 ∷ 7 ∷ 4 ∷ [])
+    -- "Signed byte: 7F hex not implemented, 7E unavailable, 7D saturated"
+    ∷ signedByte 0x7F is reading NotImplemented false
+    ∷ signedByte 0x7E is reading TemporarilyUnavailable false
+    ∷ signedByte 0x7D is reading (Reading 0x7D) true
+    -- "Colour temperature 17000 shown, 17001 unknown, 65534 part 209, 65535 unknown"
+    ∷ temperature (cctOf 17000) is temperature (Kelvin 17000)
+    ∷ temperature (cctOf 17001) is temperature CctReading.Unknown
+    ∷ temperature (cctOf 65534) is temperature Part209Implemented
+    ∷ temperature (cctOf 65535) is temperature CctReading.Unknown
+    -- "Type 6: reserved in format 3, shown in 4"
+    ∷ type (typeOf V3 6) is type (Reserved 6)
+    ∷ type (typeOf V4 6) is type («Type» 6)
+    -- "Field year: header of the single byte 77 hex, 4; empty header, 2; nothing read, 3"
+    ∷ fieldYear (fromHeader (0x77 ∷ [])) is number 4
+    ∷ fieldYear (fromHeader []) is number 2
+    ∷ fieldYear nothingRead is number 3
+    ∷ []
+
+abbrev pub CasesHold : Type 0
+CasesHold = map (λ (c : Case). c .given) cases ≡ map (λ (c : Case). c .said) cases
