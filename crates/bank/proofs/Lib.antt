@@ -2,6 +2,10 @@ pub mod Options
 pub mod Checks
 pub mod Header
 pub mod Texts
+pub mod Fields
 pub mod Chunk
 pub mod Bounds
 pub mod Reading
+pub mod Done
+pub mod Calls
+pub mod Cases

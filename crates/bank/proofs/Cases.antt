@@ -1,0 +1,15 @@
+-- The cases of 01 hold of the definitions: antt computes the whole table.
+-- Assumes nothing.
+use mathlib.Core.Path.{refl}
+use Rattle.bus.specs.Number.{number}
+use Rattle.bus.specs.Maps.{mapAt, firstWith}
+use Rattle.bus.specs.Part251.{formatOf}
+use Rattle.bank.specs.Refusal.{firstOf}
+use Rattle.bank.specs.Fields.{luminaireFields, idIn}
+use Rattle.bank.specs.Writable.{checkWritable}
+use Rattle.bank.specs.Chunk.{fieldsFrom, withFurther, wholeFields, chunkLen}
+use Rattle.bank.specs.Cases.{cases, CasesHold}
+
+pub cases-hold : CasesHold
+unfolding cases chunkLen wholeFields withFurther fieldsFrom mapAt firstOf checkWritable luminaireFields idIn number formatOf firstWith
+cases-hold = refl
