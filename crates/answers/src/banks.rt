@@ -2,7 +2,6 @@
 use crate::line;
 use bus::BankValue;
 use bus::OptionBankValue;
-use bus::OptionU64;
 use bus::ValueWidth;
 
 pub(crate) fn answer(number: u8, request: &[u8], text: &mut [u8], n: usize) -> usize {
@@ -31,18 +30,8 @@ fn of_width(number: u8, width: ValueWidth, text: &mut [u8], n: usize) -> usize {
 
 fn of_value(number: u8, value: BankValue, text: &mut [u8], n: usize) -> usize {
     match number {
-        0x07 => put_option_u64(text, n, value.value()),
+        0x07 => line::put_option_u64(text, n, value.value()),
         _ => line::put_bool(text, n, value.is_temporarily_unavailable()),
-    }
-}
-
-fn put_option_u64(text: &mut [u8], n: usize, value: OptionU64) -> usize {
-    match value {
-        OptionU64::Some(v) => {
-            let m = line::put_u8(text, n, 1);
-            line::put_u64(text, m, v)
-        }
-        OptionU64::None => line::put_u8(text, n, 0),
     }
 }
 

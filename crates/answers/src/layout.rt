@@ -1,11 +1,10 @@
 // The functions of layout.rs.
 use crate::line;
-use bus::OptionU8;
 
 pub(crate) fn answer(number: u8, request: &[u8], text: &mut [u8], n: usize) -> usize {
     let bank = line::u8_at(request, 1);
     match number {
-        0x10 => bank_last_offset(bank, text, n),
+        0x10 => line::put_option_u8(text, n, bus::bank_last_offset(bank)),
         0x11 => line::put_option_bank_field(
             text,
             n,
@@ -23,18 +22,17 @@ pub(crate) fn answer(number: u8, request: &[u8], text: &mut [u8], n: usize) -> u
             bus::is_field_boundary(bank, line::u16_at(request, 2)),
         ),
         0x15 => constants(text, n),
+        0x16 => chunk_len(request, text, n),
         _ => n,
     }
 }
 
-fn bank_last_offset(bank: u8, text: &mut [u8], n: usize) -> usize {
-    match bus::bank_last_offset(bank) {
-        OptionU8::Some(offset) => {
-            let m = line::put_u8(text, n, 1);
-            line::put_u8(text, m, offset)
-        }
-        OptionU8::None => line::put_u8(text, n, 0),
-    }
+fn chunk_len(request: &[u8], text: &mut [u8], n: usize) -> usize {
+    let bank = line::u8_at(request, 1);
+    let offset = line::u16_at(request, 2);
+    let remaining = line::u16_at(request, 4);
+    let budget = line::u16_at(request, 6);
+    line::put_u16(text, n, bank::chunk_len(bank, offset, remaining, budget))
 }
 
 fn constants(text: &mut [u8], n: usize) -> usize {

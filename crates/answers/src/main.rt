@@ -3,7 +3,9 @@
 mod banks;
 mod layout;
 mod line;
+mod luminaire_write;
 mod part251;
+mod read_out;
 
 use libc::STDIN_FILENO;
 use libc::STDOUT_FILENO;
@@ -16,6 +18,8 @@ fn answer(request: &[u8], text: &mut [u8], n: usize) -> usize {
         0 => banks::answer(number, request, text, n),
         1 => layout::answer(number, request, text, n),
         2 => part251::answer(number, request, text, n),
+        3 => luminaire_write::answer(number, request, text, n),
+        4 => read_out::answer(number, request, text, n),
         _ => n,
     }
 }

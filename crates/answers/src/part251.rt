@@ -1,11 +1,16 @@
 // The functions of part251.rs.
 use crate::line;
+use bank::CctReading;
+use bank::LightDistributionType;
 use bus::LuminaireFormat;
-use bus::OptionLuminaireFormat;
 
 pub(crate) fn answer(number: u8, request: &[u8], text: &mut [u8], n: usize) -> usize {
     match number {
-        0x20 => from_content_format_id(line::u16_at(request, 1), text, n),
+        0x20 => line::put_option_format(
+            text,
+            n,
+            LuminaireFormat::from_content_format_id(line::u16_at(request, 1)),
+        ),
         0x21 => line::put_u16(text, n, line::format_at(request, 1).content_format_id()),
         0x22 => line::put_u8(text, n, line::format_at(request, 1).min_last_offset()),
         0x23 => line::put_bool(
@@ -15,18 +20,65 @@ pub(crate) fn answer(number: u8, request: &[u8], text: &mut [u8], n: usize) -> u
         ),
         0x24 => line::put_bool(text, n, line::format_at(request, 1).has_extended_block()),
         0x25 => constants(text, n),
+        0x26 | 0x27 | 0x2B => of_u8(number, line::u8_at(request, 1), text, n),
+        0x28 | 0x29 | 0x2C | 0x2E => of_u16(number, line::u16_at(request, 1), text, n),
+        0x2A => line::put_option_u32(
+            text,
+            n,
+            bank::part251::light_output_lm(line::u32_at(request, 1)),
+        ),
+        0x2D => light_distribution_type(request, text, n),
         _ => n,
     }
 }
 
-fn from_content_format_id(id: u16, text: &mut [u8], n: usize) -> usize {
-    match LuminaireFormat::from_content_format_id(id) {
-        OptionLuminaireFormat::Some(format) => {
-            let m = line::put_u8(text, n, 1);
-            line::put_format(text, m, format)
-        }
-        OptionLuminaireFormat::None => line::put_u8(text, n, 0),
+// The functions of one byte.
+fn of_u8(number: u8, raw: u8, text: &mut [u8], n: usize) -> usize {
+    match number {
+        0x26 => line::put_option_u8(text, n, bank::part251::year(raw)),
+        0x27 => line::put_option_u8(text, n, bank::part251::week(raw)),
+        _ => line::put_option_u8(text, n, bank::part251::cri(raw)),
     }
+}
+
+// The functions of two bytes.
+fn of_u16(number: u8, raw: u16, text: &mut [u8], n: usize) -> usize {
+    match number {
+        0x28 => line::put_option_u16(text, n, bank::part251::power_w(raw)),
+        0x29 => line::put_option_u16(text, n, bank::part251::mains_voltage_v(raw)),
+        0x2C => put_cct(text, n, bank::part251::cct(raw)),
+        _ => line::put_option_u16(text, n, bank::part251::lamp_current_ma(raw)),
+    }
+}
+
+fn put_cct(text: &mut [u8], n: usize, reading: CctReading) -> usize {
+    match reading {
+        CctReading::Kelvin(kelvin) => {
+            let m = line::put_u8(text, n, 0);
+            line::put_u16(text, m, kelvin)
+        }
+        CctReading::Part209Implemented => line::put_u8(text, n, 1),
+        CctReading::Unknown => line::put_u8(text, n, 2),
+    }
+}
+
+fn light_distribution_type(request: &[u8], text: &mut [u8], n: usize) -> usize {
+    let raw = line::u8_at(request, 1);
+    let format = line::format_at(request, 2);
+    match bank::part251::light_distribution_type(raw, format) {
+        LightDistributionType::NotSpecified => line::put_u8(text, n, 0),
+        LightDistributionType::Type(number) => put_type(text, n, 1, number),
+        LightDistributionType::EmergencyLuminaire => line::put_u8(text, n, 2),
+        LightDistributionType::Other => line::put_u8(text, n, 3),
+        LightDistributionType::Reserved(number) => put_type(text, n, 4, number),
+        LightDistributionType::Unknown => line::put_u8(text, n, 5),
+    }
+}
+
+// A variant that holds a number.
+fn put_type(text: &mut [u8], n: usize, place: u8, number: u8) -> usize {
+    let m = line::put_u8(text, n, place);
+    line::put_u8(text, m, number)
 }
 
 fn constants(text: &mut [u8], n: usize) -> usize {

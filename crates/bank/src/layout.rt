@@ -9,9 +9,8 @@ use bus::layout::map_of;
 use bus::layout::source_diagnostics_map;
 ghost use mathlib.Core.Path.{_≡_};
 ghost use Prim.Native.Nat.{_≤_, min};
-ghost use lib.ListN.{drop};
 ghost use Rattle.bus.specs.Maps.{entries};
-ghost use Rattle.bank.specs.Chunk.{fieldsFrom, withFurther, wholeFields, chunkLen};
+ghost use Rattle.bank.specs.Chunk.{fieldsFrom, wholeFields, chunkLen};
 
 fn smaller(a: u16, b: u16) -> u16
     ensures { λ r. ⌜ r ≡ min a b ⌝ }
@@ -19,29 +18,31 @@ fn smaller(a: u16, b: u16) -> u16
     if a <= b { a } else { b }
 }
 
-// The place in a map of the field that starts at an offset, and one past the map where none does.
-fn place_of(map: FieldMap, offset: u16) -> usize
+// The chunk that a map gives, where limit is the smaller of budget and remaining: the first loop finds the
+// field that starts at the offset, the second adds those behind it that fit whole. A function for each loop
+// would copy the map once more.
+fn whole_fields(map: FieldMap, offset: u16, remaining: u16, limit: u16) -> u16
     requires { ⌜ map .len ≤ 28 ⌝ }
-    ensures { λ r. ⌜ drop r (entries map) ≡ fieldsFrom offset (entries map) ⌝ }
+    ensures { λ r. ⌜ r ≡ wholeFields remaining limit (fieldsFrom offset (entries map)) ⌝ }
 {
     let mut i = 0;
     while i < map.len {
         let field = map.fields[i];
         if field.offset as u16 == offset {
-            return i;
+            break;
         }
         i += 1;
     }
-    i
-}
-
-// What is taken, with the fields from a place on that fit the limit whole.
-fn with_further(map: FieldMap, from: usize, first: u16, limit: u16) -> u16
-    requires { ⌜ map .len ≤ 28 ⌝ }
-    ensures { λ r. ⌜ r ≡ withFurther limit first (drop from (entries map)) ⌝ }
-{
-    let mut taken = first;
-    let mut i = from;
+    if map.len <= i {
+        return limit;
+    }
+    let first = map.fields[i];
+    let width = first.width;
+    let mut taken = width.bytes() as u16;
+    if remaining < taken {
+        return limit;
+    }
+    i += 1;
     while i < map.len {
         let field = map.fields[i];
         let width = field.width;
@@ -56,24 +57,6 @@ fn with_further(map: FieldMap, from: usize, first: u16, limit: u16) -> u16
         i += 1;
     }
     taken
-}
-
-// The chunk that a map gives, where limit is the smaller of budget and remaining.
-fn whole_fields(map: FieldMap, offset: u16, remaining: u16, limit: u16) -> u16
-    requires { ⌜ map .len ≤ 28 ⌝ }
-    ensures { λ r. ⌜ r ≡ wholeFields remaining limit (fieldsFrom offset (entries map)) ⌝ }
-{
-    let place = place_of(map, offset);
-    if map.len <= place {
-        return limit;
-    }
-    let field = map.fields[place];
-    let width = field.width;
-    let bytes = width.bytes() as u16;
-    if remaining < bytes {
-        return limit;
-    }
-    with_further(map, place + 1, bytes, limit)
 }
 
 // DiiA 252 §9.2.2

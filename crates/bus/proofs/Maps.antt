@@ -22,19 +22,19 @@ use Rattle.bus.proofs.Lists.{no-element, first-passes}
 use Rattle.bus.proofs.Contiguous.{runs, here, later, reaches, contiguous}
 
 -- which map a bank has, where its number is no single one
-pub energy-bank : (bank : ℕ) → 202 ≤ bank → bank < 205 → Energy ≡ mapAt bank
+pub energy-bank : (bank : ℕ) → 202 ≤ bank → bank ≤ 207 → (bank ≡ 205 → ⊥) → (bank ≡ 206 → ⊥) → (bank ≡ 207 → ⊥) → Energy ≡ mapAt bank
 unfolding mapAt
-energy-bank bank h k = simp (ne-eqb bank 1 (omega arith), le-leb 202 bank h, le-leb bank 204 (omega arith))
+energy-bank bank h k h₅ h₆ h₇ = simp (ne-eqb bank 1 (omega arith), le-leb 202 bank h, le-leb bank 204 (omega arith))
 
 pub no-map-low : (bank : ℕ) → (bank ≡ 1 → ⊥) → bank < 202 → Missing ≡ mapAt bank
 unfolding mapAt
 no-map-low bank h k =
     simp (ne-eqb bank 1 h, lt-leb 202 bank k, ne-eqb bank 205 (omega arith), ne-eqb bank 206 (omega arith), ne-eqb bank 207 (omega arith))
 
-pub no-map-high : (bank : ℕ) → (bank ≡ 205 → ⊥) → (bank ≡ 206 → ⊥) → (bank ≡ 207 → ⊥) → 205 ≤ bank → Missing ≡ mapAt bank
+pub no-map-high : (bank : ℕ) → 207 < bank → Missing ≡ mapAt bank
 unfolding mapAt
-no-map-high bank h₅ h₆ h₇ k =
-    simp (ne-eqb bank 1 (omega arith), le-leb 202 bank (omega arith), lt-leb bank 204 k, ne-eqb bank 205 h₅, ne-eqb bank 206 h₆, ne-eqb bank 207 h₇)
+no-map-high bank k =
+    simp (ne-eqb bank 1 (omega arith), le-leb 202 bank (omega arith), lt-leb bank 204 (omega arith), ne-eqb bank 205 (omega arith), ne-eqb bank 206 (omega arith), ne-eqb bank 207 (omega arith))
 
 -- what a function of the map is, once a `match` has told which map the bank has
 pub at-map : {A : Type 0} (g : BankMap → A) {m told is : BankMap} → m ≡ told → m ≡ is → g told ≡ g is

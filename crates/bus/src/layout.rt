@@ -437,17 +437,21 @@ pub fn maintenance_map() -> FieldMap
     }
 }
 
-// The map of a bank, by its number.
+// The map of a bank, by its number. A bank without one, as most are, is told by a single range.
 pub fn map_of(bank: u8) -> BankMap
     ensures { λ r. ⌜ r ≡ mapAt bank ⌝ }
 {
+    if bank == BANK_LUMINAIRE_INFO {
+        return BankMap::LuminaireInfo;
+    }
+    if bank < BANK_ACTIVE_ENERGY || BANK_LUMINAIRE_MAINTENANCE < bank {
+        return BankMap::Missing;
+    }
     match bank {
-        BANK_LUMINAIRE_INFO => BankMap::LuminaireInfo,
-        BANK_ACTIVE_ENERGY | BANK_APPARENT_ENERGY | BANK_LOADSIDE_ENERGY => BankMap::Energy,
         BANK_CONTROL_GEAR_DIAGNOSTICS => BankMap::GearDiagnostics,
         BANK_LIGHT_SOURCE_DIAGNOSTICS => BankMap::SourceDiagnostics,
         BANK_LUMINAIRE_MAINTENANCE => BankMap::Maintenance,
-        _ => BankMap::Missing,
+        _ => BankMap::Energy,
     }
 }
 
