@@ -1,6 +1,6 @@
 -- 01, "May the field be written": what a colour temperature and a distribution type say, shown or not.
 -- Assumes nothing.
-use mathlib.Core.Bool.{cond}
+use mathlib.Core.Bool.{Bool, not, cond, _&&_}
 use Prim.Native.Nat.{ℕ}
 use lib.Dec.{eqb}
 use Rattle.bus.specs.declared.part251.LuminaireFormat.{LuminaireFormat}
@@ -12,9 +12,14 @@ use Rattle.bank.specs.declared.part251.LightDistributionType.{LightDistr
 use Rattle.bank.specs.declared.part251.LightDistributionType.the-variants.{NotSpecified, «Type», EmergencyLuminaire, Other, Reserved}
 use Rattle.bank.specs.Rules.{shows}
 
--- "colour temperature 0 to 17000, while 65534 says part 209 is implemented": any other number says nothing
+-- "colour temperature 0 to 17000, while 65534 says part 209 is implemented": which numbers each case of `CctReading` says
+abbrev pub cctSays : CctReading → ℕ → Bool
+cctSays (Kelvin k) n = shows NumberRule.Cct V3 k && eqb n k
+cctSays Part209Implemented n = eqb n 65534
+cctSays CctReading.Unknown n = not (shows NumberRule.Cct V3 n) && not (eqb n 65534)
+
 abbrev pub cctOf : ℕ → CctReading
-cctOf n = cond (shows NumberRule.Cct V3 n) (Kelvin n) (cond (eqb n 65534) Part209Implemented CctReading.Unknown)
+cctOf n = cond (cctSays (Kelvin n) n) (Kelvin n) (cond (cctSays Part209Implemented n) Part209Implemented CctReading.Unknown)
 
 -- the number of each case of `LightDistributionType` (IEC 62386-251)
 abbrev pub typeNumber : LightDistributionType → ℕ

@@ -15,6 +15,7 @@ pub use luminaire_write::NumberRule;
 pub use luminaire_write::OptionLuminaireField;
 pub use luminaire_write::ResultLuminaireFormat;
 pub use luminaire_write::check_writable;
+pub use luminaire_write::luminaire_fields;
 pub use part251::CctReading;
 pub use part251::LightDistributionType;
 pub use read_out::ReadOut;

@@ -15,7 +15,7 @@ pub enum Refusal {
     WrongChunkLength,
 }
 
-pub enum OptionRefusal {
+pub(crate) enum OptionRefusal {
     Some(Refusal),
     None,
 }

@@ -3,17 +3,18 @@
 use mathlib.Core.Path.{_≡_, refl, sym, _∙_}
 use mathlib.Core.Bool.{Bool, true, false, cond}
 use mathlib.Core.List.{List}
+use mathlib.Core.Option.{some}
 use Prim.Native.Nat.{ℕ, _+_, _≤_}
 use native.Mathlib.Omega.{arith}
 use borrow.Author.Tests.{le-leb, eqb-false}
 use lib.Dec.{eqb}
 use lib.ListN.{length, take, drop, length-append, length-drop}
 use lib.Seq.{take-all, take-at}
-use Rattle.bus.specs.declared.OptionU64.{OptionU64}
 use Rattle.bus.specs.declared.BankValue.the-variants.{Reading, NotImplemented, TemporarilyUnavailable}
 use Rattle.bus.specs.Number.{lowBytes}
 use Rattle.bus.specs.Width.{bytesOf, maskOf, tmaskOf}
 use Rattle.bus.specs.Value.{valueOf, encoded, NoMask, NoMaskShown, ReadsBack}
+use Rattle.bus.proofs.Lists.{no-element}
 use Rattle.bus.proofs.Number.{length-lowBytes, number-lowBytes}
 
 pub no-mask-shown : NoMaskShown
@@ -21,10 +22,10 @@ no-mask-shown w raw v e = by (eqb raw (maskOf w)) (eqb raw (tmaskOf w)) refl ref
   where
     by :
         (a b : Bool) → eqb raw (maskOf w) ≡ a → eqb raw (tmaskOf w) ≡ b →
-        valueOf (cond a NotImplemented (cond b TemporarilyUnavailable (Reading raw))) ≡ OptionU64.Some v →
+        valueOf (cond a NotImplemented (cond b TemporarilyUnavailable (Reading raw))) ≡ some v →
         NoMask w raw v
-    by true b p q s = absurd (let z : _≡_ {A = ℕ} 0 1 = cc in omega arith)
-    by false true p q s = absurd (let z : _≡_ {A = ℕ} 0 1 = cc in omega arith)
+    by true b p q s = no-element s
+    by false true p q s = no-element s
     by false false p q s =
         let same : v ≡ raw = cc in
         record {

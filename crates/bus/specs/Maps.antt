@@ -10,7 +10,6 @@ use lib.Dec.{eqb, leb, ltb}
 use lib.ListN.{length, take, getElem?, replicate}
 use Rattle.bus.specs.declared.ValueWidth.{ValueWidth}
 use Rattle.bus.specs.declared.ValueWidth.the-variants.{U8, U16, U24, U32, U48, I8}
-use Rattle.bus.specs.declared.OptionU8.{OptionU8}
 use Rattle.bus.specs.declared.layout.BankField.{BankField}
 use Rattle.bus.specs.declared.layout.FieldMap.{FieldMap}
 use Rattle.bus.specs.declared.layout.BankMap.{BankMap}
@@ -79,13 +78,13 @@ mapEnd Maintenance = 0x07 + 1
 mapEnd Missing = 0
 
 -- the last offset of banks 202 to 207, which end with their map; how long a bank 1 is, its own first byte says
-abbrev pub fixedLast : BankMap → OptionU8
-fixedLast LuminaireInfo = OptionU8.None
-fixedLast Energy = OptionU8.Some (mapEnd Energy - 1)
-fixedLast GearDiagnostics = OptionU8.Some (mapEnd GearDiagnostics - 1)
-fixedLast SourceDiagnostics = OptionU8.Some (mapEnd SourceDiagnostics - 1)
-fixedLast Maintenance = OptionU8.Some (mapEnd Maintenance - 1)
-fixedLast Missing = OptionU8.None
+abbrev pub fixedLast : BankMap → Option ℕ
+fixedLast LuminaireInfo = none
+fixedLast Energy = some (mapEnd Energy - 1)
+fixedLast GearDiagnostics = some (mapEnd GearDiagnostics - 1)
+fixedLast SourceDiagnostics = some (mapEnd SourceDiagnostics - 1)
+fixedLast Maintenance = some (mapEnd Maintenance - 1)
+fixedLast Missing = none
 
 -- the map of a bank, by its number
 unfoldable pub mapAt : ℕ → BankMap

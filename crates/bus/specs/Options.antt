@@ -3,6 +3,7 @@
 use mathlib.Core.Option.{Option, none, some}
 use Prim.Native.Nat.{ℕ}
 use Rattle.bus.specs.declared.OptionU8.{OptionU8}
+use Rattle.bus.specs.declared.OptionU64.{OptionU64}
 use Rattle.bus.specs.declared.BankValue.{BankValue}
 use Rattle.bus.specs.declared.OptionBankValue.{OptionBankValue}
 use Rattle.bus.specs.declared.layout.BankField.{BankField}
@@ -13,6 +14,10 @@ use Rattle.bus.specs.declared.part251.OptionLuminaireFormat.{OptionLumin
 abbrev pub optionU8 : Option ℕ → OptionU8
 optionU8 (some n) = OptionU8.Some n
 optionU8 none = OptionU8.None
+
+abbrev pub optionU64 : Option ℕ → OptionU64
+optionU64 (some n) = OptionU64.Some n
+optionU64 none = OptionU64.None
 
 abbrev pub optionBankValue : Option BankValue → OptionBankValue
 optionBankValue (some v) = OptionBankValue.Some v

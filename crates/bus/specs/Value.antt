@@ -8,7 +8,6 @@ use Prim.Native.Nat.{ℕ, _+_, _%_, _^_, _≤_}
 use lib.Dec.{eqb, leb}
 use lib.ListN.{length, take, drop}
 use Rattle.bus.specs.declared.ValueWidth.{ValueWidth}
-use Rattle.bus.specs.declared.OptionU64.{OptionU64}
 use Rattle.bus.specs.declared.BankValue.{BankValue}
 use Rattle.bus.specs.declared.BankValue.the-variants.{Reading, NotImplemented, TemporarilyUnavailable}
 use Rattle.bus.specs.Number.{number, lowBytes}
@@ -27,10 +26,10 @@ classified w raw =
     (cond (eqb raw (rawOf w TemporarilyUnavailable)) TemporarilyUnavailable (Reading raw))
 
 -- only a reading has a value
-abbrev pub valueOf : BankValue → OptionU64
-valueOf (Reading v) = OptionU64.Some v
-valueOf NotImplemented = OptionU64.None
-valueOf TemporarilyUnavailable = OptionU64.None
+abbrev pub valueOf : BankValue → Option ℕ
+valueOf (Reading v) = some v
+valueOf NotImplemented = none
+valueOf TemporarilyUnavailable = none
 
 -- "temporarily unavailable"
 abbrev pub unavailable : BankValue → Bool
@@ -61,7 +60,7 @@ pub record NoMask (w : ValueWidth) (raw v : ℕ) : Type 0 where
   pub no-tmask : v ≡ tmaskOf w → ⊥
 
 abbrev pub NoMaskShown : Type 0
-NoMaskShown = (w : ValueWidth) (raw v : ℕ) → valueOf (classified w raw) ≡ OptionU64.Some v → NoMask w raw v
+NoMaskShown = (w : ValueWidth) (raw v : ℕ) → valueOf (classified w raw) ≡ some v → NoMask w raw v
 
 -- What is written into an output that is long enough reads back as its low bytes say.
 abbrev pub ReadsBack : Type 0

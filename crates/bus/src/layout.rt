@@ -6,7 +6,7 @@ use crate::part251::BANK_LUMINAIRE_INFO_MAP;
 ghost use mathlib.Core.Path.{_≡_};
 ghost use Prim.Native.Nat.{_≤_};
 ghost use lib.ListN.{length, getElem?};
-ghost use Rattle.bus.specs.Options.{optionBankField};
+ghost use Rattle.bus.specs.Options.{optionU8, optionBankField};
 ghost use Rattle.bus.specs.Maps.{fields, tableOf, mapAt, mapOf, entries, fixedLast, holds, firstWith, fieldContaining, isBoundary};
 
 pub struct BankField {
@@ -456,7 +456,7 @@ pub fn map_of(bank: u8) -> BankMap
 }
 
 fn map_last_offset(map: BankMap) -> OptionU8
-    ensures { λ r. ⌜ r ≡ fixedLast map ⌝ }
+    ensures { λ r. ⌜ r ≡ optionU8 (fixedLast map) ⌝ }
 {
     match map {
         BankMap::LuminaireInfo => OptionU8::None,
@@ -470,7 +470,7 @@ fn map_last_offset(map: BankMap) -> OptionU8
 
 // The last offset of a bank whose length is fixed.
 pub fn bank_last_offset(bank: u8) -> OptionU8
-    ensures { λ r. ⌜ r ≡ fixedLast (mapAt bank) ⌝ }
+    ensures { λ r. ⌜ r ≡ optionU8 (fixedLast (mapAt bank)) ⌝ }
 {
     map_last_offset(map_of(bank))
 }

@@ -34,7 +34,7 @@ ghost use lib.ListN.{length, take, drop};
 ghost use Rattle.bus.specs.Number.{number};
 ghost use Rattle.bus.specs.Width.{bytesOf, signed, maskOf, tmaskOf, maxValidOf, toSigned, signedMeaning};
 ghost use Rattle.bus.specs.Value.{classified, valueOf, unavailable, saturated, readAt, encoded};
-ghost use Rattle.bus.specs.Options.{optionBankValue};
+ghost use Rattle.bus.specs.Options.{optionU64, optionBankValue};
 
 fn power_of_two(exponent: usize) -> u64
     requires { ⌜ exponent < 64 ⌝ }
@@ -145,7 +145,7 @@ pub enum BankValue {
 
 impl BankValue {
     pub fn value(self) -> OptionU64
-        ensures { λ r. ⌜ r ≡ valueOf self ⌝ }
+        ensures { λ r. ⌜ r ≡ optionU64 (valueOf self) ⌝ }
     {
         match self {
             BankValue::Reading(v) => OptionU64::Some(v),

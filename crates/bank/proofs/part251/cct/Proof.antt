@@ -1,6 +1,6 @@
 -- `bank::part251::cct` meets its contract, test by test.
 -- Assumes nothing.
-use mathlib.Core.Path.{sym, _∙_}
+use mathlib.Core.Path.{refl, sym, _∙_}
 use borrow.Author.Tests.{eq-eqb, ne-eqb}
 use borrow.Author.Needs.{needs}
 use Rattle.bank.proofs.part251.cct.Statement.{statement}
@@ -13,7 +13,7 @@ sub-if2 : tie.Need-sub-if2
 sub-if2 c = search needs
 
 returns : tie.Need-returns
-returns c = rw (sym (c .before .shows-back .ensures) ∙ c .if1 .taken)
+returns c = rw (sym (c .before .shows-back .ensures) ∙ c .if1 .taken, eq-eqb (c .before .before .args .raw) (c .before .before .args .raw) refl)
 
 returns-2 : tie.Need-returns-2
 returns-2 c = rw (sym (c .before .before .shows-back .ensures) ∙ c .before .if1 .left, eq-eqb _ _ (c .if2 .taken))
