@@ -3,14 +3,14 @@
 use mathlib.Core.Path.{_≡_, refl, sym, ap, _∙_}
 use mathlib.Core.Bool.{true, false, true≢false}
 use mathlib.Core.List.{List, [], _∷_}
-use mathlib.Core.Option.{Option, none, some}
+use mathlib.Core.Option.{Option, some}
 use Prim.Native.Nat.{ℕ, _+_, _≤_, _<_, min, max}
 use native.Mathlib.Omega.{arith}
-use borrow.Author.Tests.{leb-true, lt-leb, ne-eqb, eq-eqb, le-leb, lt-ltb}
+use borrow.Author.Tests.{leb-true, ne-eqb, eq-eqb, le-leb, lt-ltb}
 use lib.Dec.{T, leb, ltb, ltb→lt}
 use Rattle.bus.specs.declared.layout.BankField.{BankField}
 use Rattle.bus.specs.Width.{bytesOf}
-use Rattle.bus.specs.Maps.{mapAt, mapOf, mapEnd, startOf, endOf, holds, firstWith, fieldContaining}
+use Rattle.bus.specs.Maps.{mapAt, mapOf, mapEnd, startOf, endOf, holds, firstWith}
 use Rattle.bus.proofs.Tests.{and-right, by-test}
 use Rattle.bus.proofs.Lists.{no-element}
 use Rattle.bus.proofs.Width.{sized}

@@ -1,11 +1,9 @@
 -- Lists of calls of a read-out: where it stands behind them, and what its buffer holds.
 -- Assumes nothing.
 use mathlib.Core.Path.{_≡_, refl, sym, ap, _∙_}
-use mathlib.Core.Bool.{not}
 use mathlib.Core.List.{List, [], _∷_, _++_, map, append-assoc, append-nil}
 use mathlib.Core.Option.{Option, none, some}
 use Prim.Native.Nat.{ℕ, _+_, _-_, _≤_, min}
-use native.Mathlib.Nat.{add-zero, add-assoc}
 use native.Mathlib.Omega.{arith}
 use borrow.Author.Tests.{ltb-true, ltb-false, eqb-true, eqb-false, not-false}
 use lib.Dec.{eqb, ltb}
@@ -16,8 +14,8 @@ use Rattle.bank.specs.declared.read_out.ReadOut.{ReadOut}
 use Rattle.bank.specs.declared.refusal.Refusal.{Refusal}
 use Rattle.bank.specs.Refusal.{Check, firstOf}
 use Rattle.bank.specs.Chunk.{ChunkRule, Bounded}
-use Rattle.bank.specs.ReadOut.{laid, wantChecks, wantedLen, acceptChecks}
-use Rattle.bank.specs.Calls.{Call, want, accept, State, step, after, taken, accepted, sum, joined, Behind, EveryListOfCalls}
+use Rattle.bank.specs.ReadOut.{laid, wantedLen, acceptChecks}
+use Rattle.bank.specs.Calls.{Call, want, accept, State, step, after, taken, accepted, sum, joined, EveryListOfCalls}
 use Rattle.bank.proofs.Checks.{passed}
 use Rattle.bank.proofs.Reading as reading
 

@@ -4,7 +4,6 @@ use mathlib.Core.Path.{_≡_}
 use mathlib.Core.List.{List, [], _∷_}
 use Prim.Native.Nat.{ℕ, _+_, _≤_, _<_}
 use borrow.Author.Tests.{eq-eqb, ne-eqb, le-leb, lt-leb}
-use lib.ListN.{drop}
 use Rattle.bus.specs.declared.layout.BankField.{BankField}
 use Rattle.bus.specs.Width.{bytesOf}
 use Rattle.bank.specs.Chunk.{fieldsFrom, withFurther, wholeFields}

@@ -1,6 +1,6 @@
 -- Laws of our options: what a `match` tells of one is told of the option that it stands for.
 -- Assumes nothing.
-use mathlib.Core.Path.{_≡_, refl, sym, ap, _∙_}
+use mathlib.Core.Path.{_≡_, sym, ap, _∙_}
 use mathlib.Core.Option.{Option, none, some}
 use Rattle.bus.specs.declared.part251.LuminaireFormat.{LuminaireFormat}
 use Rattle.bus.specs.declared.part251.OptionLuminaireFormat.{OptionLuminaireFormat}

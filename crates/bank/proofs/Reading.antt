@@ -1,13 +1,12 @@
 -- Laws of one call of a read-out, for any chunk rule that has the bounds.
 -- Assumes nothing.
-use mathlib.Core.Path.{_≡_, refl, sym, ap, _∙_}
-use mathlib.Core.Bool.{Bool, true, false, not, cond, _||_}
-use mathlib.Core.List.{List, [], _∷_, _++_}
-use mathlib.Core.Option.{Option, none, some}
-use Prim.Native.Nat.{ℕ, _+_, _-_, _≤_, _<_}
+use mathlib.Core.Path.{_≡_, sym, _∙_}
+use mathlib.Core.List.{List, [], _∷_}
+use mathlib.Core.Option.{none, some}
+use Prim.Native.Nat.{ℕ, _-_, _≤_, _<_}
 use native.Mathlib.Omega.{arith}
-use borrow.Author.Tests.{ltb-false, eqb-true, eqb-false, not-false, lt-ltb, le-ltb, eq-eqb, ne-eqb}
-use lib.Dec.{eqb, ltb}
+use borrow.Author.Tests.{ltb-false, eqb-false, lt-ltb, le-ltb, eq-eqb, ne-eqb}
+use lib.Dec.{ltb}
 use lib.ListN.{length}
 use lib.Seq.{paste, paste-zero, take-length}
 use Rattle.bank.specs.declared.refusal.Refusal.{Refusal}
@@ -15,7 +14,7 @@ use Rattle.bank.specs.declared.refusal.Refusal.the-variants.{SliceTooSho
 use Rattle.bank.specs.declared.read_out.ReadOut.{ReadOut}
 use Rattle.bank.specs.declared.read_out.ResultReadOut.the-variants.{Ok, Err}
 use Rattle.bank.specs.Refusal.{Check, firstOf}
-use Rattle.bank.specs.Chunk.{ChunkRule, Bounded}
+use Rattle.bank.specs.Chunk.{ChunkRule}
 use Rattle.bank.specs.ReadOut.{advanced, wantChecks, shortBuffer, laid, wantedLen, otherChunk, acceptChecks, accepting, bufferAfter}
 use Rattle.bank.proofs.Checks.{refused-first, passed-first, passed, or-left, or-right}
 

@@ -1,11 +1,10 @@
 -- Laws of printable texts: the test of a text from byte i on.
 -- Assumes nothing.
 use mathlib.Core.Path.{_≡_}
-use mathlib.Core.Bool.{true, false, _&&_, and-false}
-use mathlib.Core.List.{List, _∷_}
+use mathlib.Core.Bool.{true, false, and-false}
+use mathlib.Core.List.{List}
 use Prim.Native.Nat.{ℕ, _+_, _≤_, _<_}
 use native.Mathlib.Numerals.{add-one}
-use native.Mathlib.Omega.{arith}
 use borrow.Author.Tests.{le-leb, lt-leb}
 use lib.ListN.{length, getD, drop, drop-of-length-le}
 use lib.Seq.{drop-cons}

@@ -1,15 +1,15 @@
 -- Laws of the maps: which map a bank has, and that the fields of each lie one behind the other.
 -- Assumes nothing.
 use mathlib.Core.Path.{_≡_, refl, sym, ap, _∙_}
-use mathlib.Core.Bool.{Bool, true, false, _&&_, and-false}
+use mathlib.Core.Bool.{true, false, and-false}
 use mathlib.Core.List.{List, [], _∷_}
-use mathlib.Core.Option.{none, some}
-use Prim.Native.Nat.{ℕ, zero, suc, _≤_, _<_, zero-le}
+use mathlib.Core.Option.{none}
+use Prim.Native.Nat.{ℕ, _≤_, _<_, zero-le}
 use native.Mathlib.Nat.{le-add-right}
 use native.Mathlib.Omega.{arith}
-use lib.Dec.{T, ltb, eqb, eqb→eq, lit≤}
+use lib.Dec.{T, ltb, eqb→eq, lit≤}
 use borrow.Author.Tests.{le-leb, lt-leb, le-ltb, lt-ltb, ltb-true, ltb-false, ne-eqb}
-use lib.ListN.{length, getElem?}
+use lib.ListN.{length}
 use lib.Seq.{take-append-seam}
 use Rattle.bus.specs.declared.layout.BankField.{BankField}
 use Rattle.bus.specs.declared.layout.FieldMap.{FieldMap}
@@ -17,7 +17,7 @@ use Rattle.bus.specs.declared.layout.BankMap.{BankMap}
 use Rattle.bus.specs.declared.layout.BankMap.the-variants.{LuminaireInfo, Energy, GearDiagnostics, SourceDiagnostics, Maintenance, Missing}
 use Rattle.bus.specs.Width.{bytesOf}
 use Rattle.bus.specs.Maps.{tableOf, entries, mapAt, mapOf, fields, mapEnd, startOf, endOf, holds, firstWith, EveryMapContiguous, EveryOffsetFound}
-use Rattle.bus.proofs.Tests.{and-left, and-right, by-test}
+use Rattle.bus.proofs.Tests.{by-test}
 use Rattle.bus.proofs.Lists.{no-element, first-passes}
 use Rattle.bus.proofs.Contiguous.{runs, here, later, reaches, contiguous}
 

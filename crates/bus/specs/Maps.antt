@@ -7,7 +7,7 @@ use mathlib.Core.List.{List, [], _∷_, _++_}
 use mathlib.Core.Option.{Option, none, some}
 use Prim.Native.Nat.{ℕ, _+_, _-_, _≤_}
 use lib.Dec.{eqb, leb, ltb}
-use lib.ListN.{length, take, getElem?, replicate}
+use lib.ListN.{length, take, replicate}
 use Rattle.bus.specs.declared.ValueWidth.{ValueWidth}
 use Rattle.bus.specs.declared.ValueWidth.the-variants.{U8, U16, U24, U32, U48, I8}
 use Rattle.bus.specs.declared.layout.BankField.{BankField}

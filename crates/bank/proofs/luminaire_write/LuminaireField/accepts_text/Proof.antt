@@ -1,7 +1,6 @@
 -- `bank::luminaire_write::LuminaireField::accepts_text` meets its contract, kind by kind.
 -- Assumes nothing.
 use borrow.Author.Tests.{le-leb, lt-leb}
-use native.Mathlib.Omega.{arith}
 use borrow.Author.Needs.{needs}
 use Rattle.bank.proofs.luminaire_write.LuminaireField.accepts_text.Statement.{statement}
 use Rattle.bank.proofs.luminaire_write.LuminaireField.accepts_text.Tie as tie

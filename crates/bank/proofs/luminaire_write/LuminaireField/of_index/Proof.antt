@@ -1,12 +1,9 @@
 -- `bank::luminaire_write::LuminaireField::of_index` meets its contract, by what `luminaire_fields` ensures.
 -- Assumes nothing.
-use mathlib.Core.Path.{_≡_, ap, _∙_}
-use mathlib.Core.List.{List}
+use mathlib.Core.Path.{ap}
 use native.Mathlib.Omega.{arith}
 use lib.Dec.{lit≤}
-use lib.ListN.{getD}
 use Rattle.bus.proofs.Lists.{entry-in, entry-out}
-use Rattle.bank.specs.declared.luminaire_write.LuminaireField.{LuminaireField}
 use Rattle.bank.specs.Options.{optionLuminaireField}
 use Rattle.bank.specs.Fields.{luminaireFields}
 use borrow.Author.Needs.{needs}

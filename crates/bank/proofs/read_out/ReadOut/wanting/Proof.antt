@@ -1,11 +1,10 @@
 -- `bank::read_out::ReadOut::wanting` meets its contract, by the refusal that was found.
 -- Assumes nothing.
 use mathlib.Core.Path.{_≡_, sym, ap, _∙_}
-use mathlib.Core.Bool.{true, false}
-use mathlib.Core.Option.{none, some}
+use mathlib.Core.Option.{none}
 use Rattle.bank.specs.declared.read_out.Wanted.the-variants.{Chunk}
 use Rattle.bank.specs.Refusal.{firstOf}
-use Rattle.bank.specs.ReadOut.{isDone, wantChecks, wanting}
+use Rattle.bank.specs.ReadOut.{wantChecks, wanting}
 use Rattle.bank.proofs.Options.{told-refusal}
 use Rattle.bank.proofs.Reading.{fit}
 use borrow.Author.Needs.{needs}
