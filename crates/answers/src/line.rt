@@ -1,20 +1,10 @@
 // Requests and answers as text: two upper-case hexadecimal digits to a byte, high byte first.
 // A request that is too short reads as 0 where it ends, and an answer stops where its text is full:
 // both show as a difference.
-use bank::Bank1Layout;
-use bank::FieldKind;
-use bank::LuminaireField;
-use bank::LuminaireTextField;
-use bank::NumberRule;
-use bank::OptionBool;
-use bank::OptionLuminaireField;
 use bank::OptionU16;
 use bank::OptionU32;
 use bank::OptionUsize;
-use bank::ReadOut;
 use bank::Refusal;
-use bank::ResultReadOut;
-use bank::Wanted;
 use bus::BankField;
 use bus::BankValue;
 use bus::LuminaireFormat;
@@ -148,141 +138,6 @@ pub(crate) fn format_at(request: &[u8], at: usize) -> LuminaireFormat {
     }
 }
 
-fn option_u8_at(request: &[u8], at: usize) -> OptionU8
-    requires { ⌜ at ≤ 4090 ⌝ }
-{
-    if u8_at(request, at) == 0 {
-        return OptionU8::None;
-    }
-    OptionU8::Some(u8_at(request, at + 1))
-}
-
-fn option_bool_at(request: &[u8], at: usize) -> OptionBool
-    requires { ⌜ at ≤ 4090 ⌝ }
-{
-    if u8_at(request, at) == 0 {
-        return OptionBool::None;
-    }
-    OptionBool::Some(u8_at(request, at + 1) != 0)
-}
-
-fn option_u16_at(request: &[u8], at: usize) -> OptionU16
-    requires { ⌜ at ≤ 4090 ⌝ }
-{
-    if u8_at(request, at) == 0 {
-        return OptionU16::None;
-    }
-    OptionU16::Some(u16_at(request, at + 1))
-}
-
-// The index behind an option whose value has a number of bytes.
-fn option_end(request: &[u8], at: usize, bytes: usize) -> usize
-    requires { ⌜ (at ≤ 4090) × (bytes ≤ 2) ⌝ }
-    ensures { λ r. ⌜ r ≤ at + 1 + bytes ⌝ }
-{
-    if u8_at(request, at) == 0 {
-        return at + 1;
-    }
-    at + 1 + bytes
-}
-
-fn rule_at(request: &[u8], at: usize) -> NumberRule {
-    let place = u8_at(request, at);
-    match place {
-        0 => NumberRule::Year,
-        1 => NumberRule::Week,
-        2 => NumberRule::Power,
-        3 => NumberRule::MainsVoltage,
-        4 => NumberRule::LightOutput,
-        5 => NumberRule::Cri,
-        6 => NumberRule::Cct,
-        7 => NumberRule::LightDistributionType,
-        _ => NumberRule::LampCurrent,
-    }
-}
-
-pub(crate) fn text_field_at(request: &[u8], at: usize) -> LuminaireTextField {
-    let place = u8_at(request, at);
-    match place {
-        0 => LuminaireTextField::LuminaireColour,
-        1 => LuminaireTextField::LuminaireIdentification,
-        2 => LuminaireTextField::LightDistribution,
-        3 => LuminaireTextField::OemName,
-        4 => LuminaireTextField::CustomerStockingNumber,
-        _ => LuminaireTextField::FreeUse,
-    }
-}
-
-fn kind_at(request: &[u8], at: usize) -> FieldKind
-    requires { ⌜ at ≤ 4090 ⌝ }
-{
-    let place = u8_at(request, at);
-    match place {
-        0 => FieldKind::LayoutId,
-        1 => FieldKind::Number {
-            patch: u16_at(request, at + 1),
-            rule: rule_at(request, at + 3),
-        },
-        _ => FieldKind::Text(text_field_at(request, at + 1)),
-    }
-}
-
-pub(crate) fn field_at(request: &[u8], at: usize) -> LuminaireField
-    requires { ⌜ at ≤ 4000 ⌝ }
-{
-    LuminaireField {
-        offset: u8_at(request, at),
-        len: u8_at(request, at + 1),
-        since: format_at(request, at + 2),
-        kind: kind_at(request, at + 3),
-    }
-}
-
-// The index behind a field.
-pub(crate) fn field_end(request: &[u8], at: usize) -> usize
-    requires { ⌜ at ≤ 4000 ⌝ }
-    ensures { λ r. ⌜ r ≤ at + 7 ⌝ }
-{
-    let place = u8_at(request, at + 3);
-    match place {
-        0 => at + 4,
-        1 => at + 7,
-        _ => at + 5,
-    }
-}
-
-pub(crate) fn layout_at(request: &[u8], at: usize) -> Bank1Layout
-    requires { ⌜ at ≤ 4000 ⌝ }
-{
-    let id = option_end(request, at, 1);
-    let last = option_end(request, id, 2);
-    Bank1Layout {
-        implemented: option_bool_at(request, at),
-        content_format_id: option_u16_at(request, id),
-        last_offset: option_u8_at(request, last),
-    }
-}
-
-// The index behind a layout.
-pub(crate) fn layout_end(request: &[u8], at: usize) -> usize
-    requires { ⌜ at ≤ 4000 ⌝ }
-    ensures { λ r. ⌜ r ≤ at + 7 ⌝ }
-{
-    let id = option_end(request, at, 1);
-    let last = option_end(request, id, 2);
-    option_end(request, last, 1)
-}
-
-pub(crate) fn read_out_at(request: &[u8], at: usize) -> ReadOut
-    requires { ⌜ at ≤ 4000 ⌝ }
-{
-    ReadOut {
-        bank: u8_at(request, at),
-        length: u16_at(request, at + 1),
-        next: u16_at(request, at + 3),
-    }
-}
-
 // The bytes of a lent slice: its length, then as many of them as the request has.
 pub(crate) fn slice_at(request: &[u8], at: usize) -> &[u8]
     requires { ⌜ at ≤ 4096 ⌝ }
@@ -359,16 +214,6 @@ fn put_u32(text: &mut [u8], n: usize, v: u32) -> usize {
 pub(crate) fn put_u64(text: &mut [u8], n: usize, v: u64) -> usize {
     let m = put_u32(text, n, (v / 0x1_0000_0000) as u32);
     put_u32(text, m, (v % 0x1_0000_0000) as u32)
-}
-
-fn put_option_bool(text: &mut [u8], n: usize, value: OptionBool) -> usize {
-    match value {
-        OptionBool::Some(v) => {
-            let m = put_u8(text, n, 1);
-            put_bool(text, m, v)
-        }
-        OptionBool::None => put_u8(text, n, 0),
-    }
 }
 
 pub(crate) fn put_option_u8(text: &mut [u8], n: usize, value: OptionU8) -> usize {
@@ -512,106 +357,6 @@ pub(crate) fn put_option_format(text: &mut [u8], n: usize, format: OptionLuminai
     }
 }
 
-fn put_rule(text: &mut [u8], n: usize, rule: NumberRule) -> usize {
-    let place = match rule {
-        NumberRule::Year => 0,
-        NumberRule::Week => 1,
-        NumberRule::Power => 2,
-        NumberRule::MainsVoltage => 3,
-        NumberRule::LightOutput => 4,
-        NumberRule::Cri => 5,
-        NumberRule::Cct => 6,
-        NumberRule::LightDistributionType => 7,
-        NumberRule::LampCurrent => 8,
-    };
-    put_u8(text, n, place)
-}
-
-fn put_text_field(text: &mut [u8], n: usize, field: LuminaireTextField) -> usize {
-    let place = match field {
-        LuminaireTextField::LuminaireColour => 0,
-        LuminaireTextField::LuminaireIdentification => 1,
-        LuminaireTextField::LightDistribution => 2,
-        LuminaireTextField::OemName => 3,
-        LuminaireTextField::CustomerStockingNumber => 4,
-        LuminaireTextField::FreeUse => 5,
-    };
-    put_u8(text, n, place)
-}
-
-fn put_kind(text: &mut [u8], n: usize, kind: FieldKind) -> usize {
-    match kind {
-        FieldKind::LayoutId => put_u8(text, n, 0),
-        FieldKind::Number { patch, rule } => {
-            let m = put_u8(text, n, 1);
-            let k = put_u16(text, m, patch);
-            put_rule(text, k, rule)
-        }
-        FieldKind::Text(field) => {
-            let m = put_u8(text, n, 2);
-            put_text_field(text, m, field)
-        }
-    }
-}
-
-fn put_field(text: &mut [u8], n: usize, field: LuminaireField) -> usize {
-    let m = put_u8(text, n, field.offset);
-    let k = put_u8(text, m, field.len);
-    let since = field.since;
-    let l = put_format(text, k, since);
-    let kind = field.kind;
-    put_kind(text, l, kind)
-}
-
-pub(crate) fn put_option_field(text: &mut [u8], n: usize, field: OptionLuminaireField) -> usize {
-    match field {
-        OptionLuminaireField::Some(f) => {
-            let m = put_u8(text, n, 1);
-            put_field(text, m, f)
-        }
-        OptionLuminaireField::None => put_u8(text, n, 0),
-    }
-}
-
-pub(crate) fn put_layout(text: &mut [u8], n: usize, layout: Bank1Layout) -> usize {
-    let implemented = layout.implemented;
-    let m = put_option_bool(text, n, implemented);
-    let id = layout.content_format_id;
-    let k = put_option_u16(text, m, id);
-    let last = layout.last_offset;
-    put_option_u8(text, k, last)
-}
-
 pub(crate) fn put_refusal(text: &mut [u8], n: usize, refusal: Refusal) -> usize {
     put_u8(text, n, refusal.number())
-}
-
-pub(crate) fn put_read_out(text: &mut [u8], n: usize, read_out: ReadOut) -> usize {
-    let m = put_u8(text, n, read_out.bank);
-    let k = put_u16(text, m, read_out.length);
-    put_u16(text, k, read_out.next)
-}
-
-pub(crate) fn put_result_read_out(text: &mut [u8], n: usize, result: ResultReadOut) -> usize {
-    match result {
-        ResultReadOut::Ok(read_out) => {
-            let m = put_u8(text, n, 0);
-            put_read_out(text, m, read_out)
-        }
-        ResultReadOut::Err(refusal) => put_refusal(text, n, refusal),
-    }
-}
-
-pub(crate) fn put_wanted(text: &mut [u8], n: usize, wanted: Wanted) -> usize {
-    match wanted {
-        Wanted::Chunk(len) => {
-            let m = put_u8(text, n, 0);
-            put_option_u16(text, m, OptionU16::Some(len))
-        }
-        Wanted::Done => {
-            let m = put_u8(text, n, 0);
-            put_option_u16(text, m, OptionU16::None)
-        }
-        Wanted::Err(refusal) => put_refusal(text, n, refusal),
-    }
 }

@@ -1,5 +1,6 @@
 // The read-out, which the Rust lacks.
 use crate::line;
+use bank::OptionU16;
 use bank::ReadOut;
 use bank::ResultReadOut;
 use bank::Wanted;
@@ -9,7 +10,7 @@ ghost use lib.ListN.{length};
 pub(crate) fn answer(number: u8, request: &[u8], text: &mut [u8], n: usize) -> usize {
     match number {
         0x40 => starting(request, text, n),
-        0x41 => line::put_bool(text, n, line::read_out_at(request, 1).done()),
+        0x41 => line::put_bool(text, n, read_out_at(request, 1).done()),
         0x42 => wanting(request, text, n),
         0x43 => accepting(request, text, n),
         0x44 => answer_calls(request, text, n),
@@ -20,12 +21,12 @@ pub(crate) fn answer(number: u8, request: &[u8], text: &mut [u8], n: usize) -> u
 fn starting(request: &[u8], text: &mut [u8], n: usize) -> usize {
     let bank = line::u8_at(request, 1);
     let length = line::u16_at(request, 2);
-    line::put_result_read_out(text, n, ReadOut::starting(bank, length))
+    put_result_read_out(text, n, ReadOut::starting(bank, length))
 }
 
 fn wanting(request: &[u8], text: &mut [u8], n: usize) -> usize {
-    let read_out = line::read_out_at(request, 1);
-    line::put_wanted(text, n, read_out.wanting(line::u16_at(request, 6)))
+    let read_out = read_out_at(request, 1);
+    put_wanted(text, n, read_out.wanting(line::u16_at(request, 6)))
 }
 
 // What the read-out answers to a budget and a chunk.
@@ -39,8 +40,8 @@ fn accepted(read_out: ReadOut, request: &[u8], at: usize, buffer: &mut [u8]) -> 
 
 // Lends a buffer, and puts it as the call left it.
 fn put_accepted(request: &[u8], buffer: &mut [u8], text: &mut [u8], n: usize) -> usize {
-    let read_out = line::read_out_at(request, 1);
-    let m = line::put_result_read_out(text, n, accepted(read_out, request, 6, buffer));
+    let read_out = read_out_at(request, 1);
+    let m = put_result_read_out(text, n, accepted(read_out, request, 6, buffer));
     line::put_slice(text, m, buffer)
 }
 
@@ -88,8 +89,8 @@ fn call_end(calls: &[u8], at: usize) -> usize
 
 fn put_answer(text: &mut [u8], n: usize, answer: CallAnswer) -> usize {
     match answer {
-        CallAnswer::Wanted(wanted) => line::put_wanted(text, n, wanted),
-        CallAnswer::Accepted(result) => line::put_result_read_out(text, n, result),
+        CallAnswer::Wanted(wanted) => put_wanted(text, n, wanted),
+        CallAnswer::Accepted(result) => put_result_read_out(text, n, result),
     }
 }
 
@@ -121,14 +122,54 @@ fn put_answers(
         read_out = handed_back(answer, read_out);
         at = call_end(calls, at);
     }
-    m = line::put_read_out(text, m, read_out);
+    m = put_read_out(text, m, read_out);
     line::put_slice(text, m, buffer)
 }
 
 fn answer_calls(request: &[u8], text: &mut [u8], n: usize) -> usize {
-    let read_out = line::read_out_at(request, 1);
+    let read_out = read_out_at(request, 1);
     let mut space = io::buffer();
     let len = line::copy(line::slice_at(request, 6), &mut space);
     let calls = line::behind_slice(request, 6);
     put_answers(calls, read_out, &mut space[..len], text, n)
+}
+
+fn read_out_at(request: &[u8], at: usize) -> ReadOut
+    requires { ⌜ at ≤ 4000 ⌝ }
+{
+    ReadOut {
+        bank: line::u8_at(request, at),
+        length: line::u16_at(request, at + 1),
+        next: line::u16_at(request, at + 3),
+    }
+}
+
+fn put_read_out(text: &mut [u8], n: usize, read_out: ReadOut) -> usize {
+    let m = line::put_u8(text, n, read_out.bank);
+    let k = line::put_u16(text, m, read_out.length);
+    line::put_u16(text, k, read_out.next)
+}
+
+fn put_result_read_out(text: &mut [u8], n: usize, result: ResultReadOut) -> usize {
+    match result {
+        ResultReadOut::Ok(read_out) => {
+            let m = line::put_u8(text, n, 0);
+            put_read_out(text, m, read_out)
+        }
+        ResultReadOut::Err(refusal) => line::put_refusal(text, n, refusal),
+    }
+}
+
+fn put_wanted(text: &mut [u8], n: usize, wanted: Wanted) -> usize {
+    match wanted {
+        Wanted::Chunk(len) => {
+            let m = line::put_u8(text, n, 0);
+            line::put_option_u16(text, m, OptionU16::Some(len))
+        }
+        Wanted::Done => {
+            let m = line::put_u8(text, n, 0);
+            line::put_option_u16(text, m, OptionU16::None)
+        }
+        Wanted::Err(refusal) => line::put_refusal(text, n, refusal),
+    }
 }
