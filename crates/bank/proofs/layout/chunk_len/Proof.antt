@@ -3,6 +3,7 @@
 use mathlib.Core.Path.{_≡_, ap, _∙_}
 use mathlib.Core.List.{List, []}
 use Prim.Native.Nat.{ℕ, min}
+use borrow.Author.Needs.{needs}
 use Rattle.bus.specs.declared.layout.BankField.{BankField}
 use Rattle.bus.specs.declared.layout.FieldMap.{FieldMap}
 use Rattle.bus.specs.declared.layout.BankMap.{BankMap}
@@ -10,7 +11,6 @@ use Rattle.bus.specs.declared.layout.BankMap.the-variants.{LuminaireInfo, Energ
 use Rattle.bus.specs.Maps.{fields, tableOf, entries, mapOf}
 use Rattle.bus.proofs.Maps.{at-map, in-table, table-fits}
 use Rattle.bank.specs.Chunk.{fieldsFrom, wholeFields, chunkLen}
-use borrow.Author.Needs.{needs}
 use Rattle.bank.proofs.layout.chunk_len.Statement.{statement}
 use Rattle.bank.proofs.layout.chunk_len.Tie as tie
 

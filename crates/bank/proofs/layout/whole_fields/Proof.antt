@@ -7,6 +7,7 @@ use mathlib.Core.Logic.{⊎-elim}
 use mathlib.Core.List.{[], _∷_}
 use Prim.Native.Nat.{ℕ, _+_, _-_, _≤_, _<_}
 use native.Mathlib.Omega.{arith}
+use borrow.Author.Needs.{needs}
 use lib.ListN.{length, getD, drop, length-map}
 use Rattle.bus.specs.declared.ValueWidth.the-variants.{U8}
 use Rattle.bus.specs.declared.layout.BankField.{BankField}
@@ -15,7 +16,6 @@ use Rattle.bus.proofs.Width.{sized}
 use Rattle.bus.proofs.Lists.{rest, no-rest}
 use Rattle.bank.specs.Chunk.{fieldsFrom, withFurther, wholeFields}
 use Rattle.bank.proofs.Chunk.{from-here, from-next, from-end, further-fits, further-stops, further-end, chunk-smaller, chunk-whole, chunk-end}
-use borrow.Author.Needs.{needs}
 use Rattle.bank.proofs.layout.whole_fields.Statement.{statement}
 use Rattle.bank.proofs.layout.whole_fields.Tie as tie
 

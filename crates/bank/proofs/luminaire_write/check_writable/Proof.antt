@@ -4,13 +4,13 @@ use mathlib.Core.Path.{_≡_, sym, _∙_}
 use mathlib.Core.Bool.{false, not, cond}
 use mathlib.Core.Option.{none, some}
 use borrow.Author.Tests.{not-true, not-false}
+use borrow.Author.Needs.{needs}
 use Rattle.bus.specs.Part251.{fromFormat}
 use Rattle.bank.specs.declared.refusal.Refusal.the-variants.{FieldNotInFormat, TooShort}
 use Rattle.bank.specs.Refusal.{firstOf}
 use Rattle.bank.specs.Fields.{endsBy}
 use Rattle.bank.specs.Writable.{readOnly, missing, formatIn, writeChecks, checkWritable}
 use Rattle.bank.proofs.Options.{told-format}
-use borrow.Author.Needs.{needs}
 use Rattle.bank.proofs.luminaire_write.check_writable.Statement.{statement}
 use Rattle.bank.proofs.luminaire_write.check_writable.Tie as tie
 

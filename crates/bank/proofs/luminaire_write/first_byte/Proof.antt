@@ -2,9 +2,9 @@
 -- Assumes nothing.
 use mathlib.Core.Path.{ap, sym}
 use native.Mathlib.Omega.{arith}
+use borrow.Author.Needs.{needs}
 use Rattle.bus.specs.Options.{optionU8}
 use Rattle.bank.proofs.Header.{no-first, first}
-use borrow.Author.Needs.{needs}
 use Rattle.bank.proofs.luminaire_write.first_byte.Statement.{statement}
 use Rattle.bank.proofs.luminaire_write.first_byte.Tie as tie
 

@@ -4,10 +4,10 @@ use mathlib.Core.Path.{sym, ap, _∙_}
 use Prim.Native.Nat.{_*_, _^_}
 use native.Mathlib.Nat.{one-mul}
 use native.Mathlib.Omega.{arith}
-use lib.Dec.{ltb, lit<}
-use lib.Pow.{pow-mono, shl-exact}
 use borrow.Author.Tests.{lt-ltb}
 use borrow.Author.Needs.{needs}
+use lib.Dec.{ltb, lit<}
+use lib.Pow.{pow-mono, shl-exact}
 use Rattle.bank.proofs.luminaire_write.fits.Statement.{statement}
 use Rattle.bank.proofs.luminaire_write.fits.Tie as tie
 

@@ -3,10 +3,10 @@
 use mathlib.Core.Path.{ap, sym}
 use Prim.Native.Nat.{_<_}
 use native.Mathlib.Omega.{arith}
+use borrow.Author.Needs.{needs}
 use lib.ListN.{getD}
 use Rattle.bank.specs.Options.{optionU16}
 use Rattle.bank.proofs.Header.{no-id, id}
-use borrow.Author.Needs.{needs}
 use Rattle.bank.proofs.luminaire_write.id_in.Statement.{statement}
 use Rattle.bank.proofs.luminaire_write.id_in.Tie as tie
 

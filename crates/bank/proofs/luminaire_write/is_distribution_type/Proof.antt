@@ -3,10 +3,10 @@
 use mathlib.Core.Path.{_≡_}
 use mathlib.Core.Bool.{true, false}
 use native.Mathlib.Omega.{arith}
-use lib.Dec.{leb}
-use Rattle.bus.specs.Part251.{idOf}
 use borrow.Author.Tests.{le-leb, lt-leb, ne-eqb}
 use borrow.Author.Needs.{needs}
+use lib.Dec.{leb}
+use Rattle.bus.specs.Part251.{idOf}
 use Rattle.bank.proofs.luminaire_write.is_distribution_type.Statement.{statement}
 use Rattle.bank.proofs.luminaire_write.is_distribution_type.Tie as tie
 

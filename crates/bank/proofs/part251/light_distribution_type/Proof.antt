@@ -3,9 +3,9 @@
 use mathlib.Core.Path.{_≡_, sym, _∙_}
 use mathlib.Core.Bool.{true, false}
 use borrow.Author.Tests.{eq-eqb, ne-eqb}
+use borrow.Author.Needs.{needs}
 use Rattle.bank.specs.declared.luminaire_write.NumberRule.{NumberRule}
 use Rattle.bank.specs.Rules.{shows}
-use borrow.Author.Needs.{needs}
 use Rattle.bank.proofs.part251.light_distribution_type.Statement.{statement}
 use Rattle.bank.proofs.part251.light_distribution_type.Tie as tie
 

@@ -2,8 +2,8 @@
 -- Assumes nothing.
 use mathlib.Core.Path.{ap}
 use Prim.Native.Nat.{ℕ}
-use lib.Dec.{leb}
 use borrow.Author.Needs.{needs}
+use lib.Dec.{leb}
 use Rattle.bank.proofs.luminaire_write.LuminaireField.ends_by.Statement.{statement}
 use Rattle.bank.proofs.luminaire_write.LuminaireField.ends_by.Tie as tie
 

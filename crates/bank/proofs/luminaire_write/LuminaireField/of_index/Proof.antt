@@ -2,11 +2,11 @@
 -- Assumes nothing.
 use mathlib.Core.Path.{ap}
 use native.Mathlib.Omega.{arith}
+use borrow.Author.Needs.{needs}
 use lib.Dec.{lit≤}
 use Rattle.bus.proofs.Lists.{entry-in, entry-out}
 use Rattle.bank.specs.Options.{optionLuminaireField}
 use Rattle.bank.specs.Fields.{luminaireFields}
-use borrow.Author.Needs.{needs}
 use Rattle.bank.proofs.luminaire_write.LuminaireField.of_index.Statement.{statement}
 use Rattle.bank.proofs.luminaire_write.LuminaireField.of_index.Tie as tie
 

@@ -1,7 +1,7 @@
 -- `bank::luminaire_write::LuminaireField::of_text` meets its contract, text by text.
 -- Assumes nothing.
-use Rattle.bank.specs.Fields.{luminaireFields, placeOf}
 use borrow.Author.Needs.{needs}
+use Rattle.bank.specs.Fields.{luminaireFields, placeOf}
 use Rattle.bank.proofs.luminaire_write.LuminaireField.of_text.Statement.{statement}
 use Rattle.bank.proofs.luminaire_write.LuminaireField.of_text.Tie as tie
 

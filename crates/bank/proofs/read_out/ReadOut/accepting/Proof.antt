@@ -5,6 +5,7 @@ use mathlib.Core.Path.{_≡_, sym, ap, _∙_}
 use mathlib.Core.Option.{none}
 use Prim.Native.Nat.{ℕ, _+_, _-_, _≤_}
 use native.Mathlib.Omega.{arith}
+use borrow.Author.Needs.{needs}
 use lib.ListN.{length}
 use denote.Ref.{now}
 use Rattle.bank.specs.declared.read_out.ResultReadOut.the-variants.{Ok}
@@ -14,7 +15,6 @@ use Rattle.bank.specs.ReadOut.{advanced, wantChecks, wantedLen}
 use Rattle.bank.proofs.Options.{told-refusal}
 use Rattle.bank.proofs.Bounds.{chunk-len-bounded}
 use Rattle.bank.proofs.Reading.{fit, refuses-want, refuses-buffer, refuses-chunk, refuses-none, refused, taken}
-use borrow.Author.Needs.{needs}
 use Rattle.bank.proofs.read_out.ReadOut.accepting.Statement.{statement}
 use Rattle.bank.proofs.read_out.ReadOut.accepting.Tie as tie
 

@@ -2,8 +2,8 @@
 -- Assumes nothing.
 use mathlib.Core.Path.{_≡_}
 use mathlib.Core.Bool.{false}
-use lib.Dec.{ltb}
 use borrow.Author.Tests.{lt-ltb, le-ltb, eq-eqb, ne-eqb}
+use lib.Dec.{ltb}
 use Rattle.bank.specs.Refusal.{firstOf}
 use Rattle.bank.proofs.read_out.ReadOut.refusal.Statement.{statement}
 use Rattle.bank.proofs.read_out.ReadOut.refusal.Tie as tie

@@ -2,12 +2,12 @@
 -- Assumes nothing.
 use mathlib.Core.Path.{_≡_, sym, ap, _∙_}
 use mathlib.Core.Option.{none}
+use borrow.Author.Needs.{needs}
 use Rattle.bank.specs.declared.read_out.Wanted.the-variants.{Chunk}
 use Rattle.bank.specs.Refusal.{firstOf}
 use Rattle.bank.specs.ReadOut.{wantChecks, wanting}
 use Rattle.bank.proofs.Options.{told-refusal}
 use Rattle.bank.proofs.Reading.{fit}
-use borrow.Author.Needs.{needs}
 use Rattle.bank.proofs.read_out.ReadOut.wanting.Statement.{statement}
 use Rattle.bank.proofs.read_out.ReadOut.wanting.Tie as tie
 
