@@ -14,16 +14,29 @@ use Rattle.bank.proofs.Options.{told-format}
 use Rattle.bank.proofs.luminaire_write.check_writable.Statement.{statement}
 use Rattle.bank.proofs.luminaire_write.check_writable.Tie as tie
 
+-- places that are gone back to
+abbrev passed-2 : tie.After-last-offset → tie.Else2
+passed-2 c = c .before .before
+
+abbrev passed-1 : tie.Else2 → tie.Else1
+passed-1 c = c .before .before
+
+abbrev start : tie.Else2 → tie.Start
+start c = c .before .before .before .before
+
 -- 1 does not apply
 writable : (c : tie.Else1) → readOnly (c .before .before .args .field .kind) ≡ false
 writable c = sym (c .before .is-layout-id .ensures) ∙ c .if1 .left
 
 -- nor 2
-there : (c : tie.Else2) → missing (c .before .before .before .before .args .layout .implemented) ≡ false
+there : (c : tie.Else2) → missing (start c .args .layout .implemented) ≡ false
 there c = sym (c .before .is-missing .ensures) ∙ c .if2 .left
 
 -- nor 3 and 4: the last offset and the format are there, and 5 and 6 are left
-format-is : (c : tie.After-format2) → formatIn (c .before .before .before .before .before .before .before .before .before .before .args .layout .«content_format_id») ≡ some (c .format2 .given .0 .0)
+abbrev read-last : tie.After-format2 → tie.After-last-offset
+read-last c = c .before .before .before .before
+
+format-is : (c : tie.After-format2) → formatIn (start (passed-2 (read-last c)) .args .layout .«content_format_id») ≡ some (c .format2 .given .0 .0)
 format-is c = told-format _ (c .before .before .format .ensures) (c .format2 .given .1)
 
 from-5 : (c : tie.After-format2)
@@ -31,7 +44,7 @@ from-5 : (c : tie.After-format2)
     firstOf (writeChecks (a .layout) (a .field))
     ≡ cond (not (fromFormat (a .field .since) (c .format2 .given .0 .0))) (some FieldNotInFormat) (cond (not (endsBy (a .field) last)) (some TooShort) none))
 unfolding firstOf
-from-5 c = rw (writable (c .before .before .before .before .before .before .before .before), there (c .before .before .before .before .before .before), c .before .before .before .before .last-offset .given .1, format-is c)
+from-5 c = rw (writable (passed-1 (passed-2 (read-last c))), there (passed-2 (read-last c)), read-last c .last-offset .given .1, format-is c)
 
 is-layout-id-requires : tie.Need-is-layout-id-requires
 is-layout-id-requires c κs = search needs
@@ -55,7 +68,9 @@ enum-told c = search needs
 
 returns-3 : tie.Need-returns-3
 unfolding firstOf checkWritable
-returns-3 c = rw (writable (c .before .before .before .before), there (c .before .before), c .enum-told .given .1)
+returns-3 c =
+    let two = c .before .before in
+    rw (writable (passed-1 two), there two, c .enum-told .given .1)
 
 format-requires : tie.Need-format-requires
 format-requires c κs = search needs
@@ -69,8 +84,10 @@ enum-told-2 c = search needs
 returns-4 : tie.Need-returns-4
 unfolding firstOf checkWritable
 returns-4 c =
-    let a = c .before .before .before .before .before .before .before .before .before .before .args in
-    rw (writable (c .before .before .before .before .before .before .before .before), there (c .before .before .before .before .before .before), c .before .before .before .before .last-offset .given .1, told-format (formatIn (a .layout .«content_format_id»)) (c .before .before .format .ensures) (c .enum-told2 .given .1))
+    let last = c .before .before .before .before in
+    let two = passed-2 last in
+    let none-there = told-format (formatIn (start two .args .layout .«content_format_id»)) (c .before .before .format .ensures) (c .enum-told2 .given .1) in
+    rw (writable (passed-1 two), there two, last .last-offset .given .1, none-there)
 
 in-format-requires : tie.Need-in-format-requires
 in-format-requires c κs = search needs

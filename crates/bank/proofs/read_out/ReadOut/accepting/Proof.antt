@@ -18,19 +18,26 @@ use Rattle.bank.proofs.Reading.{fit, refuses-want, refuses-buffer, refu
 use Rattle.bank.proofs.read_out.ReadOut.accepting.Statement.{statement}
 use Rattle.bank.proofs.read_out.ReadOut.accepting.Tie as tie
 
+-- places that are gone back to
+abbrev start : tie.After-enum-told → tie.Start
+start c = c .before .before .before .before .before
+
+abbrev told : tie.Else2 → tie.After-enum-told
+told c = c .before .before .before .before .before
+
 -- the read-out and the budget are not refused
-sound : (c : tie.After-enum-told) → (let a = c .before .before .before .before .before .args in firstOf (wantChecks (a .self) (a .budget)) ≡ none)
+sound : (c : tie.After-enum-told) → (let a = start c .args in firstOf (wantChecks (a .self) (a .budget)) ≡ none)
 sound c = told-refusal _ (c .before .before .refusal .ensures) (c .enum-told .given .1)
 
 -- the chunk has the length that is wanted, and ends within the read-out
-wanted : (c : tie.Else2) → (let a = c .before .before .before .before .before .before .before .before .before .before .args in length (now (a .chunk)) ≡ wantedLen chunkLen (a .self) (a .budget))
+wanted : (c : tie.Else2) → (let a = start (told c) .args in length (now (a .chunk)) ≡ wantedLen chunkLen (a .self) (a .budget))
 wanted c = c .if2 .left ∙ c .before .chunk-len .ensures
 
-ends : (c : tie.Else2) → (let a = c .before .before .before .before .before .before .before .before .before .before .args in a .self .next + length (now (a .chunk)) ≤ a .self .length)
+ends : (c : tie.Else2) → (let a = start (told c) .args in a .self .next + length (now (a .chunk)) ≤ a .self .length)
 ends c =
-    let a = c .before .before .before .before .before .before .before .before .before .before .args in
+    let a = start (told c) .args in
     let r = a .self in
-    omega (arith, wanted c, fit r (a .budget) (sound (c .before .before .before .before .before)), chunk-len-bounded .within (r .bank) (r .next) (r .length - r .next) (a .budget))
+    omega (arith, wanted c, fit r (a .budget) (sound (told c)), chunk-len-bounded .within (r .bank) (r .next) (r .length - r .next) (a .budget))
 
 refusal-requires : tie.Need-refusal-requires
 refusal-requires c κs = search needs
@@ -52,13 +59,13 @@ cast-if1 c = search needs
 
 returns-2 : tie.Need-returns-2
 returns-2 c =
-    let a = c .before .before .before .before .before .before .before .args in
+    let a = start (c .before .before) .args in
     refused chunkLen (a .self) (a .budget) (now (a .chunk)) (now (a .buffer))
     (refuses-buffer chunkLen (a .self) (a .budget) (now (a .chunk)) (now (a .buffer)) (sound (c .before .before)) (c .if1 .taken))
 
 sub-chunk-len : tie.Need-sub-chunk-len
 sub-chunk-len c =
-    let a = c .before .before .before .before .before .before .before .before .args in
+    let a = start (c .before .before .before) .args in
     fit (a .self) (a .budget) (sound (c .before .before .before)) .ahead
 
 chunk-len-requires : tie.Need-chunk-len-requires
@@ -69,9 +76,10 @@ cast-if2 c = search needs
 
 returns-3 : tie.Need-returns-3
 returns-3 c =
-    let a = c .before .before .before .before .before .before .before .before .before .before .args in
+    let place = c .before .before .before .before .before in
+    let a = start place .args in
     refused chunkLen (a .self) (a .budget) (now (a .chunk)) (now (a .buffer))
-    (refuses-chunk chunkLen (a .self) (a .budget) (now (a .chunk)) (now (a .buffer)) (sound (c .before .before .before .before .before)) (c .before .before .before .if1 .left)
+    (refuses-chunk chunkLen (a .self) (a .budget) (now (a .chunk)) (now (a .buffer)) (sound place) (c .before .before .before .if1 .left)
     (λ e. c .if2 .taken (e ∙ sym (c .before .chunk-len .ensures))))
 
 cast-copy-in : tie.Need-cast-copy-in
@@ -85,8 +93,8 @@ copy-in-requires c κs =
 add-t13 : tie.Need-add-t13
 add-t13 c =
     let e = c .before .before .before .before in
-    let a = e .before .before .before .before .before .before .before .before .before .before .args in
-    omega (arith, ends e, e .if2 .left, fit (a .self) (a .budget) (sound (e .before .before .before .before .before)))
+    let a = start (told e) .args in
+    omega (arith, ends e, e .if2 .left, fit (a .self) (a .budget) (sound (told e)))
 
 same-length : tie.Need-same-length
 same-length c = search needs
@@ -94,9 +102,9 @@ same-length c = search needs
 returns-4 : tie.Need-returns-4
 returns-4 c =
     let e = c .before .before .before .before in
-    let a = e .before .before .before .before .before .before .before .before .before .before .args in
+    let a = start (told e) .args in
     let all = taken chunkLen (a .self) (a .budget) (now (a .chunk)) (now (a .buffer))
-    (refuses-none chunkLen (a .self) (a .budget) (now (a .chunk)) (now (a .buffer)) (sound (e .before .before .before .before .before)) (e .before .before .before .if1 .left) (wanted e)) in
+    (refuses-none chunkLen (a .self) (a .budget) (now (a .chunk)) (now (a .buffer)) (sound (told e)) (e .before .before .before .if1 .left) (wanted e)) in
     (ap (λ (n : ℕ). Ok (advanced (a .self) n)) (sym (e .if2 .left)) ∙ all .0, c .before .before .copy-in .ensures ∙ all .1)
 
 pub accepting-spec : {M : Type 1} → statement M
