@@ -5,8 +5,8 @@ use mathlib.Core.List.{List, [], _∷_, _++_, map, append-assoc, append-nil}
 use mathlib.Core.Option.{Option, none, some}
 use Prim.Native.Nat.{ℕ, _+_, _-_, _≤_, min}
 use native.Mathlib.Omega.{arith}
-use borrow.Author.Tests.{ltb-true, ltb-false, eqb-true, eqb-false, not-false}
-use lib.Dec.{eqb, ltb}
+use borrow.Author.Tests.{ltb-true, ltb-false}
+use lib.Dec.{ltb}
 use lib.ListN.{length, take, drop, length-append}
 use lib.Seq.{take-at, drop-at, length-take-le, drop-drop}
 use Rattle.bus.proofs.Tests.{by-test}
@@ -16,7 +16,6 @@ use Rattle.bank.specs.Refusal.{Check, firstOf}
 use Rattle.bank.specs.Chunk.{ChunkRule, Bounded}
 use Rattle.bank.specs.ReadOut.{laid, wantedLen, acceptChecks}
 use Rattle.bank.specs.Calls.{Call, want, accept, State, step, after, taken, accepted, sum, joined, EveryListOfCalls}
-use Rattle.bank.proofs.Checks.{passed}
 use Rattle.bank.proofs.Reading as reading
 
 -- ---- lists of chunks
@@ -85,12 +84,9 @@ module _ (chunk : ChunkRule) (rule : Bounded chunk) where
           }
       go none f =
           let both = reading.taken chunk r budget bytes (s .buffer) f in
-          let tests = passed checks f in
-          let n-is : length bytes ≡ wantedLen chunk r budget = eqb-true (length bytes) (wantedLen chunk r budget) (not-false (eqb (length bytes) (wantedLen chunk r budget)) (tests .1 .1 .1 .0)) in
-          let room : r .length ≤ length (s .buffer) = ltb-false (length (s .buffer)) (r .length) (tests .1 .1 .0) in
-          let paid : budget ≡ 0 → ⊥ = eqb-false budget 0 (tests .1 .0) in
+          let ok = reading.acceptable chunk r budget bytes (s .buffer) f in
           let most : wantedLen chunk r budget ≤ left = rule .within (r .bank) (r .next) left budget in
-          let least : min 1 left ≤ wantedLen chunk r budget = by-test (ltb 0 left) (λ t. omega (arith, rule .some (r .bank) (r .next) left budget (ltb-true 0 left t) (omega arith))) (λ t. omega (arith, ltb-false 0 left t)) in
+          let least : min 1 left ≤ wantedLen chunk r budget = by-test (ltb 0 left) (λ t. omega (arith, rule .some (r .bank) (r .next) left budget (ltb-true 0 left t) (ok .valid .paid))) (λ t. omega (arith, ltb-false 0 left t)) in
           record {
             next-is = rw (← both .0) (omega arith);
             bank-stays = rw (← both .0);

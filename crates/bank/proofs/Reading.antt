@@ -1,12 +1,12 @@
 -- Laws of one call of a read-out, for any chunk rule that has the bounds.
 -- Assumes nothing.
-use mathlib.Core.Path.{_≡_, sym, _∙_}
+use mathlib.Core.Path.{_≡_, refl, sym, _∙_}
 use mathlib.Core.List.{List, [], _∷_}
-use mathlib.Core.Option.{none, some}
+use mathlib.Core.Option.{Option, none, some}
 use Prim.Native.Nat.{ℕ, _-_, _≤_, _<_}
 use native.Mathlib.Omega.{arith}
-use borrow.Author.Tests.{ltb-false, eqb-false, lt-ltb, le-ltb, eq-eqb, ne-eqb}
-use lib.Dec.{ltb}
+use borrow.Author.Tests.{ltb-false, eqb-false, lt-ltb, le-ltb, eq-eqb, ne-eqb, eqb-true, not-false}
+use lib.Dec.{eqb, ltb}
 use lib.ListN.{length}
 use lib.Seq.{paste, paste-zero, take-length}
 use Rattle.bank.specs.declared.refusal.Refusal.{Refusal}
@@ -15,25 +15,21 @@ use Rattle.bank.specs.declared.read_out.ReadOut.{ReadOut}
 use Rattle.bank.specs.declared.read_out.ResultReadOut.the-variants.{Ok, Err}
 use Rattle.bank.specs.Refusal.{Check, firstOf}
 use Rattle.bank.specs.Chunk.{ChunkRule}
-use Rattle.bank.specs.ReadOut.{advanced, wantChecks, shortBuffer, laid, wantedLen, otherChunk, acceptChecks, accepting, bufferAfter}
-use Rattle.bank.proofs.Checks.{refused-first, passed-first, passed, or-left, or-right}
+use Rattle.bank.specs.ReadOut.{advanced, wantChecks, shortBuffer, laid, wantedLen, otherChunk, acceptChecks, accepting, bufferAfter, Valid, Acceptable, EveryChunkTakenExactly}
+use Rattle.bank.proofs.Checks.{Passed, refused-first, passed-first, passed, or-left, or-right}
 
--- a read-out and a budget that are not refused
-pub record Fit (r : ReadOut) (budget : ℕ) : Type 0 where
-  pub short : r .length ≤ 256
-  pub ahead : r .next ≤ r .length
-  pub paid : 1 ≤ budget
-
-pub fit : (r : ReadOut) (budget : ℕ) → firstOf (wantChecks r budget) ≡ none → Fit r budget
-fit r budget e =
-    let tests = passed (wantChecks r budget) e in
+valid-of : (r : ReadOut) (budget : ℕ) → Passed (wantChecks r budget) → Valid r budget
+valid-of r budget tests =
     let long = ltb 256 (r .length) in
     let past = ltb (r .length) (r .next) in
     omega (arith, ltb-false 256 (r .length) (or-left long past (tests .0)), ltb-false (r .length) (r .next) (or-right long past (tests .0)), eqb-false budget 0 (tests .1 .0))
 
-pub fits-none : (r : ReadOut) (budget : ℕ) → Fit r budget → firstOf (wantChecks r budget) ≡ none
+pub valid : (r : ReadOut) (budget : ℕ) → firstOf (wantChecks r budget) ≡ none → Valid r budget
+valid r budget e = valid-of r budget (passed (wantChecks r budget) e)
+
+pub valid-passes : (r : ReadOut) (budget : ℕ) → Valid r budget → firstOf (wantChecks r budget) ≡ none
 unfolding firstOf
-fits-none r budget f = rw (le-ltb 256 (r .length) (f .short), le-ltb (r .length) (r .next) (f .ahead), ne-eqb budget 0 (omega arith))
+valid-passes r budget v = rw (le-ltb 256 (r .length) (v .short), le-ltb (r .length) (r .next) (v .ahead), ne-eqb budget 0 (omega arith))
 
 -- which refusal accepting has
 module _ (chunk : ChunkRule) (r : ReadOut) (budget : ℕ) (bytes buffer : List ℕ) where
@@ -53,9 +49,22 @@ module _ (chunk : ChunkRule) (r : ReadOut) (budget : ℕ) (bytes buffer : List �
     unfolding firstOf rest
     refuses-chunk h k = passed-first (wantChecks r budget) rest sound ∙ rw (le-ltb (length buffer) (r .length) h, ne-eqb (length bytes) (wantedLen chunk r budget) k)
 
-    pub refuses-none : r .length ≤ length buffer → length bytes ≡ wantedLen chunk r budget → firstOf (acceptChecks chunk r budget bytes buffer) ≡ none
-    unfolding firstOf rest
-    refuses-none h k = passed-first (wantChecks r budget) rest sound ∙ rw (le-ltb (length buffer) (r .length) h, eq-eqb (length bytes) (wantedLen chunk r budget) k)
+  -- and that it has none exactly where the call is acceptable
+  pub acceptable : firstOf (acceptChecks chunk r budget bytes buffer) ≡ none → Acceptable chunk r budget bytes buffer
+  acceptable e =
+      let wanted = wantedLen chunk r budget in
+      let tests = passed (acceptChecks chunk r budget bytes buffer) e in
+      record {
+        valid = valid-of r budget (tests .0, (tests .1 .0, tt));
+        room = ltb-false (length buffer) (r .length) (tests .1 .1 .0);
+        exact = eqb-true (length bytes) wanted (not-false (eqb (length bytes) wanted) (tests .1 .1 .1 .0));
+      }
+
+  pub acceptable-passes : Acceptable chunk r budget bytes buffer → firstOf (acceptChecks chunk r budget bytes buffer) ≡ none
+  unfolding firstOf rest
+  acceptable-passes a =
+      passed-first (wantChecks r budget) rest (valid-passes r budget (a .valid))
+      ∙ rw (le-ltb (length buffer) (r .length) (a .room), eq-eqb (length bytes) (wantedLen chunk r budget) (a .exact))
 
   -- a refusal answers itself, and leaves the buffer as it was
   pub refused : {e : Refusal} → firstOf (acceptChecks chunk r budget bytes buffer) ≡ some e
@@ -67,6 +76,25 @@ module _ (chunk : ChunkRule) (r : ReadOut) (budget : ℕ) (bytes buffer : List �
       → (Ok (advanced r (length bytes)) ≡ accepting chunk r budget bytes buffer) × (laid buffer (r .next) bytes ≡ bufferAfter chunk r budget bytes buffer)
   unfolding accepting bufferAfter
   taken h = (rw h, rw h)
+
+  only : {s : ReadOut} → accepting chunk r budget bytes buffer ≡ Ok s → Acceptable chunk r budget bytes buffer
+  only {s} e = go (firstOf (acceptChecks chunk r budget bytes buffer)) refl
+    where
+      go : (o : Option Refusal) → firstOf (acceptChecks chunk r budget bytes buffer) ≡ o → Acceptable chunk r budget bytes buffer
+      go none f = acceptable f
+      go (some x) f =
+          let told : Err x ≡ Ok s = refused f .0 ∙ e in
+          let z : _≡_ {A = ℕ} 0 1 = cc in
+          let y : ⊥ = omega arith in
+          absurd y
+
+pub every-chunk-taken-exactly : EveryChunkTakenExactly
+every-chunk-taken-exactly chunk r budget bytes buffer =
+    record {
+      accepted = λ a. sym (taken chunk r budget bytes buffer (acceptable-passes chunk r budget bytes buffer a) .0);
+      stored = λ a. sym (taken chunk r budget bytes buffer (acceptable-passes chunk r budget bytes buffer a) .1);
+      only = λ {s} e. only chunk r budget bytes buffer e;
+    }
 
 -- a copy of all of s is s laid in
 pub paste-all : (d : List ℕ) (at : ℕ) (s : List ℕ) (n : ℕ) → n ≡ length s → paste d at s n ≡ laid d at s

@@ -78,7 +78,28 @@ module _ (chunk : ChunkRule) where
   bufferAfter r budget bytes buffer =
       checked (acceptChecks r budget bytes buffer) (λ _. buffer) (laid buffer (r .next) bytes)
 
--- What "done" means, for a read-out that is valid, a budget over 0 and a chunk rule that has the bounds.
+-- neither 12 nor 11 applies
+pub record Valid (r : ReadOut) (budget : ℕ) : Type 0 where
+  pub short : r .length ≤ 256
+  pub ahead : r .next ≤ r .length
+  pub paid : 1 ≤ budget
+
+-- nor 13 nor 14
+pub record Acceptable (chunk : ChunkRule) (r : ReadOut) (budget : ℕ) (bytes buffer : List ℕ) : Type 0 where
+  pub valid : Valid r budget
+  pub room : r .length ≤ length buffer
+  pub exact : length bytes ≡ wantedLen chunk r budget
+
+-- A chunk is accepted, and its bytes stored, exactly where nothing is wrong.
+pub record TakenExactly (chunk : ChunkRule) (r : ReadOut) (budget : ℕ) (bytes buffer : List ℕ) : Type 0 where
+  pub accepted : Acceptable chunk r budget bytes buffer → accepting chunk r budget bytes buffer ≡ ResultReadOut.Ok (advanced r (length bytes))
+  pub stored : Acceptable chunk r budget bytes buffer → bufferAfter chunk r budget bytes buffer ≡ laid buffer (r .next) bytes
+  pub only : {s : ReadOut} → accepting chunk r budget bytes buffer ≡ ResultReadOut.Ok s → Acceptable chunk r budget bytes buffer
+
+abbrev pub EveryChunkTakenExactly : Type 0
+EveryChunkTakenExactly = (chunk : ChunkRule) (r : ReadOut) (budget : ℕ) (bytes buffer : List ℕ) → TakenExactly chunk r budget bytes buffer
+
+-- What "done" means, for a chunk rule that has the bounds.
 pub record DoneRight (chunk : ChunkRule) (r : ReadOut) (budget : ℕ) : Type 0 where
   -- "It says done exactly when next equals length."
   pub says-done : r .next ≡ r .length → wanting chunk r budget ≡ Wanted.Done
@@ -89,6 +110,4 @@ pub record DoneRight (chunk : ChunkRule) (r : ReadOut) (budget : ℕ) : Type 0 w
   pub unchanged : (buffer : List ℕ) → bufferAfter chunk r budget [] buffer ≡ buffer
 
 abbrev pub EveryReadOutDoneRight : Type 0
-EveryReadOutDoneRight =
-    (chunk : ChunkRule) → Bounded chunk → (r : ReadOut) (budget : ℕ) →
-    r .length ≤ 256 → r .next ≤ r .length → 1 ≤ budget → DoneRight chunk r budget
+EveryReadOutDoneRight = (chunk : ChunkRule) → Bounded chunk → (r : ReadOut) (budget : ℕ) → Valid r budget → DoneRight chunk r budget

@@ -2,14 +2,14 @@
 -- Assumes nothing.
 use mathlib.Core.Path.{_≡_, refl, sym, ap, _∙_}
 use mathlib.Core.Bool.{true, false, and-false}
-use mathlib.Core.List.{List, [], _∷_}
+use mathlib.Core.List.{List, [], _∷_, map}
 use mathlib.Core.Option.{none}
 use Prim.Native.Nat.{ℕ, _≤_, _<_, zero-le}
 use native.Mathlib.Nat.{le-add-right}
 use native.Mathlib.Omega.{arith}
 use lib.Dec.{T, ltb, eqb→eq, lit≤}
 use borrow.Author.Tests.{le-leb, lt-leb, le-ltb, lt-ltb, ltb-true, ltb-false, ne-eqb}
-use lib.ListN.{length}
+use lib.ListN.{length, length-map}
 use lib.Seq.{take-append-seam}
 use Rattle.bus.specs.declared.layout.BankField.{BankField}
 use Rattle.bus.specs.declared.layout.FieldMap.{FieldMap}
@@ -57,6 +57,10 @@ few-fields Missing = lit≤ tt
 
 pub table-fits : (m : BankMap) {t : FieldMap} → t ≡ tableOf m → t .len ≤ 28
 table-fits m e = rw e (few-fields m)
+
+-- a table's array has 28 elements, as owning it tells
+pub table-room : (t : FieldMap) {B : Type 0} (g : BankField → B) → length (map g (t .fields)) ≡ 28 → t .len ≤ 28 → t .len ≤ length (t .fields)
+table-room t g e h = omega (arith, length-map (t .fields) g)
 
 -- the test, for each map
 pub every-map : (m : BankMap) → T (runs startOf endOf (mapEnd m) 0 (fields m))

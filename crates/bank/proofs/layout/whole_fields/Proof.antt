@@ -8,12 +8,13 @@ use mathlib.Core.List.{[], _∷_}
 use Prim.Native.Nat.{ℕ, _+_, _-_, _≤_, _<_}
 use native.Mathlib.Omega.{arith}
 use borrow.Author.Needs.{needs}
-use lib.ListN.{length, getD, drop, length-map}
+use lib.ListN.{length, getD, drop}
 use Rattle.bus.specs.declared.ValueWidth.the-variants.{U8}
 use Rattle.bus.specs.declared.layout.BankField.{BankField}
 use Rattle.bus.specs.Maps.{entries}
 use Rattle.bus.proofs.Width.{sized}
 use Rattle.bus.proofs.Lists.{rest, no-rest}
+use Rattle.bus.proofs.Maps.{table-room}
 use Rattle.bank.specs.Chunk.{fieldsFrom, withFurther, wholeFields}
 use Rattle.bank.proofs.Chunk.{from-here, from-next, from-end, further-fits, further-stops, further-end, chunk-smaller, chunk-whole, chunk-end}
 use Rattle.bank.proofs.layout.whole_fields.Statement.{statement}
@@ -31,11 +32,8 @@ Inv-loop2 offset remaining limit map i₀ taken₀ i taken = withFurther limit t
 abbrev μ-loop2 : tie.MeasureT-loop2
 μ-loop2 offset remaining limit map i₀ taken₀ i taken = map .len - i
 
--- that the table's array has 28 elements is what owning it tells
 fits : (s : tie.Start Inv-loop μ-loop Inv-loop2 μ-loop2) → s .args .t1 .len ≤ length (s .args .t1 .fields)
-fits s =
-    let room : length (s .args .t1 .fields) ≡ 28 = sym (length-map (s .args .t1 .fields) _) ∙ s .good .0 .1 .1 .1 .0 .1 .0 .1 in
-    omega (arith, s .pre)
+fits s = table-room (s .args .t1) _ (s .good .0 .1 .1 .1 .0 .1 .0 .1) (s .pre)
 
 -- the field at a place of the map, and what is left of the map there
 abbrev field-at : tie.Start Inv-loop μ-loop Inv-loop2 μ-loop2 → ℕ → BankField

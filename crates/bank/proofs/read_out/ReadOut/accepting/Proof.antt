@@ -11,10 +11,10 @@ use denote.Ref.{now}
 use Rattle.bank.specs.declared.read_out.ResultReadOut.the-variants.{Ok}
 use Rattle.bank.specs.Refusal.{firstOf}
 use Rattle.bank.specs.Chunk.{chunkLen}
-use Rattle.bank.specs.ReadOut.{advanced, wantChecks, wantedLen}
+use Rattle.bank.specs.ReadOut.{advanced, wantChecks, wantedLen, Acceptable}
 use Rattle.bank.proofs.Options.{told-refusal}
 use Rattle.bank.proofs.Bounds.{chunk-len-bounded}
-use Rattle.bank.proofs.Reading.{fit, refuses-want, refuses-buffer, refuses-chunk, refuses-none, refused, taken}
+use Rattle.bank.proofs.Reading.{valid, refuses-want, refuses-buffer, refuses-chunk, refused, every-chunk-taken-exactly}
 use Rattle.bank.proofs.read_out.ReadOut.accepting.Statement.{statement}
 use Rattle.bank.proofs.read_out.ReadOut.accepting.Tie as tie
 
@@ -37,7 +37,7 @@ ends : (c : tie.Else2) → (let a = start (told c) .args in a .self .next + leng
 ends c =
     let a = start (told c) .args in
     let r = a .self in
-    omega (arith, wanted c, fit r (a .budget) (sound (told c)), chunk-len-bounded .within (r .bank) (r .next) (r .length - r .next) (a .budget))
+    omega (arith, wanted c, valid r (a .budget) (sound (told c)), chunk-len-bounded .within (r .bank) (r .next) (r .length - r .next) (a .budget))
 
 refusal-requires : tie.Need-refusal-requires
 refusal-requires c κs = search needs
@@ -66,7 +66,7 @@ returns-2 c =
 sub-chunk-len : tie.Need-sub-chunk-len
 sub-chunk-len c =
     let a = start (c .before .before .before) .args in
-    fit (a .self) (a .budget) (sound (c .before .before .before)) .ahead
+    valid (a .self) (a .budget) (sound (c .before .before .before)) .ahead
 
 chunk-len-requires : tie.Need-chunk-len-requires
 chunk-len-requires c κs = search needs
@@ -94,7 +94,7 @@ add-t13 : tie.Need-add-t13
 add-t13 c =
     let e = c .before .before .before .before in
     let a = start (told e) .args in
-    omega (arith, ends e, e .if2 .left, fit (a .self) (a .budget) (sound (told e)))
+    omega (arith, ends e, e .if2 .left, valid (a .self) (a .budget) (sound (told e)))
 
 same-length : tie.Need-same-length
 same-length c = search needs
@@ -103,9 +103,10 @@ returns-4 : tie.Need-returns-4
 returns-4 c =
     let e = c .before .before .before .before in
     let a = start (told e) .args in
-    let all = taken chunkLen (a .self) (a .budget) (now (a .chunk)) (now (a .buffer))
-    (refuses-none chunkLen (a .self) (a .budget) (now (a .chunk)) (now (a .buffer)) (sound (told e)) (e .before .before .before .if1 .left) (wanted e)) in
-    (ap (λ (n : ℕ). Ok (advanced (a .self) n)) (sym (e .if2 .left)) ∙ all .0, c .before .before .copy-in .ensures ∙ all .1)
+    let exactly = every-chunk-taken-exactly chunkLen (a .self) (a .budget) (now (a .chunk)) (now (a .buffer)) in
+    let ok : Acceptable chunkLen (a .self) (a .budget) (now (a .chunk)) (now (a .buffer)) =
+    record { valid = valid (a .self) (a .budget) (sound (told e)); room = e .before .before .before .if1 .left; exact = wanted e } in
+    (ap (λ (n : ℕ). Ok (advanced (a .self) n)) (sym (e .if2 .left)) ∙ sym (exactly .accepted ok), c .before .before .copy-in .ensures ∙ sym (exactly .stored ok))
 
 pub accepting-spec : {M : Type 1} → statement M
 accepting-spec =

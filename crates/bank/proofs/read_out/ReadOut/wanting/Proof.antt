@@ -7,7 +7,7 @@ use Rattle.bank.specs.declared.read_out.Wanted.the-variants.{Chunk}
 use Rattle.bank.specs.Refusal.{firstOf}
 use Rattle.bank.specs.ReadOut.{wantChecks, wanting}
 use Rattle.bank.proofs.Options.{told-refusal}
-use Rattle.bank.proofs.Reading.{fit}
+use Rattle.bank.proofs.Reading.{valid}
 use Rattle.bank.proofs.read_out.ReadOut.wanting.Statement.{statement}
 use Rattle.bank.proofs.read_out.ReadOut.wanting.Tie as tie
 
@@ -34,7 +34,7 @@ returns c = rw (sound (c .before .before), sym (c .before .done .ensures) ∙ c 
 sub-chunk-len : tie.Need-sub-chunk-len
 sub-chunk-len c =
     let a = c .before .before .before .before .before .before .args in
-    fit (a .self) (a .budget) (sound (c .before .before .before)) .ahead
+    valid (a .self) (a .budget) (sound (c .before .before .before)) .ahead
 
 chunk-len-requires : tie.Need-chunk-len-requires
 chunk-len-requires c κs = search needs

@@ -5,11 +5,12 @@ use mathlib.Core.Path.{_≡_, refl, sym, ap, _∙_}
 use Prim.Native.Nat.{_-_, _≤_}
 use native.Mathlib.Omega.{arith}
 use borrow.Author.Needs.{needs}
-use lib.ListN.{length, drop, length-map}
+use lib.ListN.{length, drop}
 use Rattle.bus.specs.declared.ValueWidth.the-variants.{U8}
 use Rattle.bus.specs.Options.{optionBankField}
 use Rattle.bus.specs.Maps.{entries, holds, firstWith}
 use Rattle.bus.proofs.Lists.{found, passed, ended}
+use Rattle.bus.proofs.Maps.{table-room}
 use Rattle.bus.proofs.layout.FieldMap.containing.Statement.{statement}
 use Rattle.bus.proofs.layout.FieldMap.containing.Tie as tie
 
@@ -19,11 +20,8 @@ Inv-loop offset self i₀ i = firstWith (holds offset) (drop i (entries self)) �
 abbrev μ-loop : tie.MeasureT-loop
 μ-loop offset self i₀ i = self .len - i
 
--- that the table's array has 28 elements is what owning it tells
 fits : (l : tie.At-loop Inv-loop μ-loop) → l .before .args .t1 .len ≤ length (l .before .args .t1 .fields)
-fits l =
-    let room : length (l .before .args .t1 .fields) ≡ 28 = sym (length-map (l .before .args .t1 .fields) _) ∙ l .before .good .0 .1 .1 .1 .0 .1 .0 .1 in
-    omega (arith, l .before .pre)
+fits l = table-room (l .before .args .t1) _ (l .before .good .0 .1 .1 .1 .0 .1 .0 .1) (l .before .pre)
 
 loop-holds : tie.Need-loop-holds Inv-loop μ-loop
 loop-holds c = refl
