@@ -21,7 +21,7 @@ cctSays CctReading.Unknown n = not (shows NumberRule.Cct V3 n) && not (eqb n 655
 abbrev pub cctOf : ℕ → CctReading
 cctOf n = cond (cctSays (Kelvin n) n) (Kelvin n) (cond (cctSays Part209Implemented n) Part209Implemented CctReading.Unknown)
 
--- the number of each case of `LightDistributionType` (IEC 62386-251; the names are those of 002)
+-- the number of each case of `LightDistributionType` (IEC 62386-251; the names are those of `part251.rs`)
 abbrev pub typeNumber : LightDistributionType → ℕ
 typeNumber NotSpecified = 0
 typeNumber («Type» n) = n
