@@ -8,4 +8,3 @@ pub mod Bounds
 pub mod Reading
 pub mod Done
 pub mod Calls
-pub mod Cases

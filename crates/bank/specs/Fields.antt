@@ -5,11 +5,12 @@ use mathlib.Core.List.{List, [], _∷_, head?}
 use mathlib.Core.Option.{Option, none, some, Option·map}
 use Prim.Native.Nat.{ℕ, suc, _+_, _-_, _*_, _^_}
 use lib.Dec.{eqb, leb, ltb}
-use lib.ListN.{length, take, drop}
+use lib.ListN.{length}
 use Rattle.bus.specs.declared.part251.LuminaireFormat.{LuminaireFormat}
 use Rattle.bus.specs.declared.part251.LuminaireFormat.the-variants.{V3, V5}
 use Rattle.bus.specs.Options.{optionU8}
 use Rattle.bus.specs.Number.{number}
+use Rattle.bus.specs.Value.{bytesAt}
 use Rattle.bus.specs.Contiguous.{Contiguous}
 use Rattle.bus.specs.Part251.{TextField, colour, identification, distribution, oemName, stockingNumber, freeUse}
 use Rattle.bank.specs.declared.OptionBool.{OptionBool}
@@ -122,7 +123,7 @@ acceptsText f bytes = isTextKind (f .kind) && (leb (length bytes) (f .len) && pr
 
 -- the content format id that a header holds, if it is wholly present
 unfoldable pub idIn : List ℕ → Option ℕ
-idIn header = cond (leb 0x13 (length header)) (some (number (take 2 (drop 0x11 header)))) none
+idIn header = Option·map number (bytesAt 0x11 2 header)
 
 -- "A layout has three optional parts (implemented, content format id, last offset); `Bank1Layout::from_header` sets
 -- implemented to false for an empty header"

@@ -8,4 +8,3 @@ pub mod Writable
 pub mod Chunk
 pub mod ReadOut
 pub mod Calls
-pub mod Cases

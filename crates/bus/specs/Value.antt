@@ -3,7 +3,7 @@
 use mathlib.Core.Path.{_≡_}
 use mathlib.Core.Bool.{Bool, true, false, cond}
 use mathlib.Core.List.{List, _++_}
-use mathlib.Core.Option.{Option, none, some}
+use mathlib.Core.Option.{Option, none, some, Option·map}
 use Prim.Native.Nat.{ℕ, _+_, _%_, _^_, _≤_}
 use lib.Dec.{eqb, leb}
 use lib.ListN.{length, take, drop}
@@ -31,6 +31,12 @@ valueOf (Reading v) = some v
 valueOf NotImplemented = none
 valueOf TemporarilyUnavailable = none
 
+-- "not implemented"
+abbrev pub notImplemented : BankValue → Bool
+notImplemented (Reading v) = false
+notImplemented NotImplemented = true
+notImplemented TemporarilyUnavailable = false
+
 -- "temporarily unavailable"
 abbrev pub unavailable : BankValue → Bool
 unavailable (Reading v) = false
@@ -43,11 +49,13 @@ saturated w (Reading v) = eqb v (maxValidOf w)
 saturated w NotImplemented = false
 saturated w TemporarilyUnavailable = false
 
--- "a field not wholly present is absent"
+-- "a field not wholly present is absent": its bytes, so many from an offset on
+abbrev pub bytesAt : ℕ → ℕ → List ℕ → Option (List ℕ)
+bytesAt offset n bytes = cond (leb (offset + n) (length bytes)) (some (take n (drop offset bytes))) none
+
+-- what those of a width say
 abbrev pub readAt : ValueWidth → ℕ → List ℕ → Option BankValue
-readAt w offset bytes =
-    cond (leb (offset + bytesOf w) (length bytes))
-    (some (classified w (number (take (bytesOf w) (drop offset bytes))))) none
+readAt w offset bytes = Option·map (λ bs. classified w (number bs)) (bytesAt offset (bytesOf w) bytes)
 
 -- "`encode_value` (a short output takes the leading bytes)": the rest of a long one is unchanged
 abbrev pub encoded : ValueWidth → ℕ → List ℕ → List ℕ

@@ -5,37 +5,41 @@ use mathlib.Core.Bool.{Bool, true, false, cond}
 use mathlib.Core.List.{List, [], _∷_, map}
 use mathlib.Core.Option.{Option, none, some}
 use Prim.Native.Nat.{ℕ, zero, suc}
+use lib.IntN.{ℤ, pos, negℤ}
 use lib.ListN.{getElem?}
 use Rattle.bus.specs.declared.OptionU8.{OptionU8}
 use Rattle.bus.specs.declared.ValueWidth.the-variants.{I8}
-use Rattle.bus.specs.declared.BankValue.{BankValue}
-use Rattle.bus.specs.declared.BankValue.the-variants.{Reading, NotImplemented, TemporarilyUnavailable}
+use Rattle.bus.specs.declared.OptionU64.{OptionU64}
 use Rattle.bus.specs.declared.part251.LuminaireFormat.the-variants.{V3, V4}
-use Rattle.bus.specs.Value.{classified, saturated}
 use Rattle.bank.specs.declared.OptionBool.{OptionBool}
 use Rattle.bank.specs.declared.OptionU16.{OptionU16}
 use Rattle.bank.specs.declared.part251.CctReading.{CctReading}
 use Rattle.bank.specs.declared.part251.CctReading.the-variants.{Kelvin, Part209Implemented}
 use Rattle.bank.specs.declared.part251.LightDistributionType.{LightDistributionType}
 use Rattle.bank.specs.declared.part251.LightDistributionType.the-variants.{«Type», Reserved}
 use Rattle.bank.specs.declared.read_out.ReadOut.{ReadOut}
 use Rattle.bank.specs.declared.luminaire_write.LuminaireField.{LuminaireField}
 use Rattle.bank.specs.declared.luminaire_write.Bank1Layout.{Bank1Layout}
 use Rattle.bank.specs.declared.luminaire_write.ResultLuminaireFormat.{ResultLuminaireFormat}
 use Rattle.bank.specs.declared.luminaire_write.ResultLuminaireFormat.the-variants.{Ok, Err}
 use Rattle.bank.specs.Refusal.{numberOf}
 use Rattle.bank.specs.Readings.{cctOf, typeOf}
 use Rattle.bank.specs.Fields.{luminaireFields, fromHeader}
 use Rattle.bank.specs.Writable.{checkWritable}
 use Rattle.bank.specs.Chunk.{chunkLen}
 use Rattle.bank.specs.ReadOut.{fresh, advanced, isDone, wantedLen}
+use Rattle.records.specs.declared.attributes.BankReading.{BankReading}
+use Rattle.records.specs.Places.{readingAt, scaleAt}
+use Rattle.records.specs.Text.{escaped}
 
--- what a case speaks of: a number, the lengths of a read-out's chunks, a reading and whether it is saturated, a colour
--- temperature, a distribution type
+-- what a case speaks of: a number, the lengths of a read-out's chunks, a reading, a scale, a colour temperature, a
+-- distribution type, the bytes of a text
 pub data Answer : Type 0 where
   number : ℕ → Answer
   lengths : List ℕ → Answer
-  reading : BankValue → Bool → Answer
+  reading : Option BankReading → Answer
+  scale : Option ℤ → Answer
+  text : List ℕ → Answer
   temperature : CctReading → Answer
   type : LightDistributionType → Answer
 
@@ -59,7 +63,19 @@ abbrev readOut : ℕ → ℕ → ℕ → Answer
 readOut bank len budget = lengths (chunks len (fresh bank len) budget)
 
 abbrev signedByte : ℕ → Answer
-signedByte raw = reading (classified I8 raw) (saturated I8 (classified I8 raw))
+signedByte b = reading (readingAt 0 (b ∷ []) 0 I8)
+
+abbrev says : OptionU64 → Bool → Bool → Bool → Answer
+says value missing unavailable saturated =
+    reading (some (record {
+      value = value;
+      «not_implemented» = missing;
+      «temporarily_unavailable» = unavailable;
+      saturated = saturated;
+    }))
+
+abbrev scaleByte : ℕ → Answer
+scaleByte b = scale (scaleAt 0 (b ∷ []) 0)
 
 -- the number of a refusal, 0 for none
 abbrev refusalOf : ResultLuminaireFormat → ℕ
@@ -92,9 +108,12 @@ cases =
     ∷ readOut 202 16 5 is lengths (5 ∷ 6 ∷ 5 ∷ [])
     ∷ readOut 202 16 8 is lengths (5 ∷ 7 ∷ 4 ∷ [])
     -- "Signed byte: 7F hex not implemented, 7E unavailable, 7D saturated"
-    ∷ signedByte 0x7F is reading NotImplemented false
-    ∷ signedByte 0x7E is reading TemporarilyUnavailable false
-    ∷ signedByte 0x7D is reading (Reading 0x7D) true
+    ∷ signedByte 0x7F is says OptionU64.None true false false
+    ∷ signedByte 0x7E is says OptionU64.None false true false
+    ∷ signedByte 0x7D is says (OptionU64.Some 0x7D) false false true
+    -- "Scale: FF is −1, F9 absent"
+    ∷ scaleByte 0xFF is scale (some (negℤ (pos 1)))
+    ∷ scaleByte 0xF9 is scale none
     -- "Colour temperature 17000 shown, 17001 unknown, 65534 part 209, 65535 unknown"
     ∷ temperature (cctOf 17000) is temperature (Kelvin 17000)
     ∷ temperature (cctOf 17001) is temperature CctReading.Unknown
@@ -107,6 +126,8 @@ cases =
     ∷ fieldYear (fromHeader (0x77 ∷ [])) is number 4
     ∷ fieldYear (fromHeader []) is number 2
     ∷ fieldYear nothingRead is number 3
+    -- "Bytes C3 A9 80 read as é followed by `\x80`"
+    ∷ text (escaped 32 (0xC3 ∷ 0xA9 ∷ 0x80 ∷ [])) is text (0xC3 ∷ 0xA9 ∷ 0x5C ∷ 0x78 ∷ 0x38 ∷ 0x30 ∷ [])
     ∷ []
 
 abbrev pub CasesHold : Type 0

@@ -1,0 +1,101 @@
+-- 01, "The records", the paragraph "Text ends at the first 00."
+-- Assumes nothing.
+use mathlib.Core.Path.{_≡_}
+use mathlib.Core.Bool.{Bool, true, false, cond}
+use mathlib.Core.List.{List, [], _∷_, _++_}
+use mathlib.Core.Option.{Option, none, some}
+use Prim.Native.Nat.{ℕ, zero, suc, _+_, _-_, _/_, _%_, _≤_, max}
+use lib.Dec.{eqb, leb, ltb}
+use lib.ListN.{length, take, drop, replicate}
+use Rattle.bus.specs.declared.part251.TextRegion.{TextRegion}
+use Rattle.bank.specs.Fields.{printable}
+use Rattle.records.specs.declared.fixed_text.TextLimit.{TextLimit}
+use Rattle.records.specs.declared.fixed_text.TextLimit.the-variants.{Bytes32, Bytes64}
+use Rattle.records.specs.declared.fixed_text.FixedText.{FixedText}
+use Rattle.records.specs.declared.memory_bank_parser.Pushed.{Pushed}
+use Rattle.records.specs.Places.{fieldAt, isThere}
+use Rattle.records.specs.Utf8.{sequenceLen}
+
+-- "Text ends at the first 00."
+unfoldable pub untilZero : List ℕ → List ℕ
+untilZero [] = []
+untilZero (b ∷ bs) = cond (eqb b 0) [] (b ∷ untilZero bs)
+
+abbrev pub hexDigit : ℕ → ℕ
+hexDigit n = cond (ltb n 10) (0x30 + n) (0x41 + (n - 10))
+
+-- "`\xNN`, NN being two upper-case hex digits"
+abbrev pub escape : ℕ → List ℕ
+escape b = 0x5C ∷ 0x78 ∷ hexDigit (b / 16) ∷ hexDigit (b % 16) ∷ []
+
+-- "At each place a well-formed UTF-8 sequence (Unicode, table 3-7) is copied and any other byte becomes `\xNN`": the
+-- piece that stands for the bytes at the start of a text
+abbrev pub piece : List ℕ → List ℕ
+piece [] = []
+piece (b ∷ bs) = cond (eqb (sequenceLen (b ∷ bs)) 0) (escape b) (take (sequenceLen (b ∷ bs)) (b ∷ bs))
+
+-- the pieces of a text, behind so many bytes that belong to the piece before
+unfoldable pub piecesBehind : ℕ → List ℕ → List (List ℕ)
+piecesBehind skip [] = []
+piecesBehind zero (b ∷ bs) = piece (b ∷ bs) ∷ piecesBehind (sequenceLen (b ∷ bs) - 1) bs
+piecesBehind (suc skip) (b ∷ bs) = piecesBehind skip bs
+
+abbrev pub pieces : List ℕ → List (List ℕ)
+pieces bytes = piecesBehind 0 bytes
+
+-- a list in the place of another's first elements
+abbrev pub laidFirst : List ℕ → List ℕ → List ℕ
+laidFirst p out = p ++ drop (length p) out
+
+-- "copying stops at the first that doesn't fit .. and a part never enters"
+unfoldable pub fitting : ℕ → List (List ℕ) → List ℕ
+fitting room [] = []
+fitting room (p ∷ ps) = cond (leb (length p) room) (p ++ fitting (room - length p) ps) []
+
+-- how many bytes of a text were taken, and how many they became in a slice: 0 where they do not fit
+abbrev pub pushed : List ℕ → List ℕ → Pushed
+pushed bytes out =
+    record { taken = max 1 (sequenceLen bytes); len = cond (leb (length (piece bytes)) (length out)) (length (piece bytes)) 0 }
+
+-- what a piece leaves of a slice: all of it enters, or nothing
+abbrev pub afterPush : List ℕ → List ℕ → List ℕ
+afterPush p out = cond (leb (length p) (length out)) (laidFirst p out) out
+
+-- what is shown of a text within a limit
+abbrev pub escaped : ℕ → List ℕ → List ℕ
+escaped limit bytes = fitting limit (pieces bytes)
+
+-- "64 bytes (identification) or 32 (others)"
+abbrev pub limitOf : TextLimit → ℕ
+limitOf Bytes32 = 32
+limitOf Bytes64 = 64
+
+-- "`FixedText<N>` becomes a 64-byte array with a length and its limit"
+abbrev pub shownText : TextLimit → List ℕ → FixedText
+shownText limit bytes =
+    let text = escaped (limitOf limit) bytes in
+    record { present = true; limit = limit; len = length text; bytes = text ++ replicate (64 - length text) 0 }
+
+-- "an absent text is a yes or no beside its array"
+abbrev pub absentText : TextLimit → FixedText
+absentText limit = record { present = false; limit = limit; len = 0; bytes = replicate 64 0 }
+
+abbrev regionOf : ℕ → List ℕ → TextRegion → Option (List ℕ)
+regionOf start bytes t = fieldAt start bytes (t .offset) (t .len)
+
+-- "a yes or no of its own tells whether the region is present"
+abbrev pub textPresent : ℕ → List ℕ → TextRegion → Bool
+textPresent start bytes t = isThere (regionOf start bytes t)
+
+abbrev beforeZero : Option (List ℕ) → List ℕ
+beforeZero none = []
+beforeZero (some bs) = untilZero bs
+
+-- "`text_bytes` hands back the part of the caller's bank before the 00; for a region not wholly present the part is empty"
+abbrev pub textBytes : ℕ → List ℕ → TextRegion → List ℕ
+textBytes start bytes t = beforeZero (regionOf start bytes t)
+
+-- a text field as it is shown
+abbrev pub textRegion : ℕ → List ℕ → TextRegion → TextLimit → FixedText
+textRegion start bytes t limit =
+    cond (textPresent start bytes t) (shownText limit (textBytes start bytes t)) (absentText limit)

@@ -1,0 +1,34 @@
+// The record layer: what the bytes of a bank say (memory_bank_parser.rs, attributes.rs), who a device is
+// (identity.rs), and what a bus unit is made of (bus_unit.rs).
+pub mod attributes;
+pub mod bus_unit;
+pub mod fixed_text;
+pub mod identity;
+pub mod memory_bank_parser;
+mod utf8;
+
+pub use attributes::BankReading;
+pub use attributes::LuminaireValue;
+pub use attributes::OptionBankReading;
+pub use bus_unit::BusUnitConfiguration;
+pub use bus_unit::EmergencyGearType;
+pub use bus_unit::ImplementedParts;
+pub use fixed_text::FixedText;
+pub use fixed_text::TextLimit;
+pub use identity::DeviceIdentity;
+pub use identity::IdentityCause;
+pub use identity::IdentityRead;
+pub use identity::ResultDeviceIdentity;
+pub use memory_bank_parser::ParsedBusUnit;
+pub use memory_bank_parser::ParsedCondition;
+pub use memory_bank_parser::ParsedEnergyBank;
+pub use memory_bank_parser::ParsedGearDiagnostics;
+pub use memory_bank_parser::ParsedLuminaireMaintenance;
+pub use memory_bank_parser::ParsedMemoryIdentity;
+pub use memory_bank_parser::ParsedMemoryProfile;
+pub use memory_bank_parser::ParsedSourceDiagnostics;
+
+pub enum OptionI8 {
+    Some(i8),
+    None,
+}

@@ -1,0 +1,476 @@
+// What the bytes of a bank say (memory_bank_parser.rs). The first byte given stands at the start offset; a field that is
+// not wholly present is absent.
+use crate::OptionI8;
+use crate::attributes::BankReading;
+use crate::attributes::OptionBankReading;
+use crate::bus_unit::BUS_UNIT_CONFIGURATION_OFFSET;
+use crate::bus_unit::IMPLEMENTED_PARTS_OFFSET;
+use crate::fixed_text::FixedText;
+use crate::fixed_text::TextLimit;
+use crate::identity::GTIN_LEN;
+use crate::identity::GTIN_OFFSET;
+use crate::identity::IDENTIFICATION_NUMBER_LEN;
+use crate::identity::IDENTIFICATION_NUMBER_OFFSET;
+use crate::identity::is_mask;
+use crate::identity::number_of;
+use crate::utf8::sequence_len;
+use bus::BankValue;
+use bus::OptionBankValue;
+use bus::OptionU8;
+use bus::OptionU64;
+use bus::TextRegion;
+use bus::ValueWidth;
+use bus::read_value;
+use bus::signed_byte;
+ghost use mathlib.Core.Path.{_≡_};
+ghost use mathlib.Core.Bool.{cond};
+ghost use mathlib.Core.List.{_++_};
+ghost use Prim.Native.Nat.{_+_, _-_, _≤_, _<_};
+ghost use lib.ListN.{length, take, drop};
+ghost use lib.Dec.{leb};
+ghost use Rattle.bus.specs.Options.{optionU8, optionU64};
+ghost use Rattle.bus.specs.Value.{notImplemented};
+ghost use Rattle.records.specs.Options.{optionI8, optionBankReading};
+ghost use Rattle.records.specs.Places.{fieldAt, isThere, byteAt, numberAt, readingOf, readingAt, scaleOf, scaleAt};
+ghost use Rattle.records.specs.Records.{bank0Identity, bank1Profile, bank0BusUnit, energyBank, condition, gearDiagnostics, sourceDiagnostics, luminaireMaintenance};
+ghost use Rattle.records.specs.Text.{untilZero, textBytes, textPresent, hexDigit, escape, piece, escaped, laidFirst, pushed, afterPush, shownText, textRegion};
+
+pub struct ParsedMemoryIdentity {
+    pub last_memory_bank: OptionU8,
+    pub gtin: OptionU64,
+    pub firmware_version_major: OptionU8,
+    pub firmware_version_minor: OptionU8,
+    pub identification_number: OptionU64,
+    pub hardware_version_major: OptionU8,
+    pub hardware_version_minor: OptionU8,
+    pub dali_101_version: OptionU8,
+    pub dali_102_version: OptionU8,
+    pub dali_103_version: OptionU8,
+    pub logical_control_device_units: OptionU8,
+    pub logical_control_gear_units: OptionU8,
+    pub logical_control_gear_index: OptionU8,
+}
+
+pub struct ParsedMemoryProfile {
+    pub bank1_lock_byte: OptionU8,
+    pub oem_gtin: OptionU64,
+    pub oem_identification_number: OptionU64,
+}
+
+// Whether so many bytes from an offset on are all present.
+fn holds(bytes: &[u8], start_offset: u16, offset: usize, len: usize) -> bool
+    ensures { λ r. ⌜ r ≡ isThere (fieldAt «start_offset» (now (bytes .entry)) offset len) ⌝ }
+{
+    if offset < start_offset as usize {
+        return false;
+    }
+    if bytes.len() < len {
+        return false;
+    }
+    offset - start_offset as usize <= bytes.len() - len
+}
+
+fn parse_be_u64(bytes: &[u8], start_offset: u16, start: usize, len: usize) -> OptionU64
+    requires { ⌜ len ≤ 8 ⌝ }
+    ensures { λ r. ⌜ r ≡ optionU64 (numberAt «start_offset» (now (bytes .entry)) start len) ⌝ }
+{
+    if !holds(bytes, start_offset, start, len) {
+        return OptionU64::None;
+    }
+    let rel = start - start_offset as usize;
+    let end = rel + len;
+    let field = &bytes[rel..end];
+    if is_mask(field) {
+        return OptionU64::None;
+    }
+    OptionU64::Some(number_of(field))
+}
+
+pub fn byte(bytes: &[u8], start_offset: u16, index: usize) -> OptionU8
+    ensures { λ r. ⌜ r ≡ optionU8 (byteAt «start_offset» (now (bytes .entry)) index) ⌝ }
+{
+    if index < start_offset as usize {
+        return OptionU8::None;
+    }
+    let rel = index - start_offset as usize;
+    if bytes.len() <= rel {
+        return OptionU8::None;
+    }
+    OptionU8::Some(bytes[rel])
+}
+
+fn is_not_implemented(raw: BankValue) -> bool
+    ensures { λ r. ⌜ r ≡ notImplemented raw ⌝ }
+{
+    match raw {
+        BankValue::Reading(_) => false,
+        BankValue::NotImplemented => true,
+        BankValue::TemporarilyUnavailable => false,
+    }
+}
+
+fn reading_of(raw: BankValue, width: ValueWidth) -> BankReading
+    ensures { λ r. ⌜ r ≡ readingOf width raw ⌝ }
+{
+    BankReading {
+        value: raw.value(),
+        not_implemented: is_not_implemented(raw),
+        temporarily_unavailable: raw.is_temporarily_unavailable(),
+        saturated: raw.is_saturated(width),
+    }
+}
+
+pub fn parse_reading(
+    bytes: &[u8],
+    start_offset: u16,
+    offset: u8,
+    width: ValueWidth,
+) -> OptionBankReading
+    ensures { λ r. ⌜ r ≡ optionBankReading (readingAt «start_offset» (now (bytes .entry)) offset width) ⌝ }
+{
+    if (offset as u16) < start_offset {
+        return OptionBankReading::None;
+    }
+    let rel = offset as u16 - start_offset;
+    match read_value(bytes, rel as usize, width) {
+        OptionBankValue::Some(raw) => OptionBankReading::Some(reading_of(raw, width)),
+        OptionBankValue::None => OptionBankReading::None,
+    }
+}
+
+fn scale_of(raw: u8) -> OptionI8
+    ensures { λ r. ⌜ r ≡ optionI8 (scaleOf raw) ⌝ }
+{
+    let signed = signed_byte(raw);
+    if signed < -6 {
+        return OptionI8::None;
+    }
+    if 6 < signed {
+        return OptionI8::None;
+    }
+    OptionI8::Some(signed)
+}
+
+pub fn parse_scale(bytes: &[u8], start_offset: u16, offset: u8) -> OptionI8
+    ensures { λ r. ⌜ r ≡ optionI8 (scaleAt «start_offset» (now (bytes .entry)) offset) ⌝ }
+{
+    match byte(bytes, start_offset, offset as usize) {
+        OptionU8::Some(raw) => scale_of(raw),
+        OptionU8::None => OptionI8::None,
+    }
+}
+
+pub fn parse_bank0_identity(bytes: &[u8], start_offset: u16) -> ParsedMemoryIdentity
+    ensures { λ r. ⌜ r ≡ bank0Identity «start_offset» (now (bytes .entry)) ⌝ }
+{
+    ParsedMemoryIdentity {
+        last_memory_bank: byte(bytes, start_offset, 2),
+        gtin: parse_be_u64(bytes, start_offset, GTIN_OFFSET as usize, GTIN_LEN),
+        firmware_version_major: byte(bytes, start_offset, 9),
+        firmware_version_minor: byte(bytes, start_offset, 10),
+        identification_number: parse_be_u64(
+            bytes,
+            start_offset,
+            IDENTIFICATION_NUMBER_OFFSET as usize,
+            IDENTIFICATION_NUMBER_LEN,
+        ),
+        hardware_version_major: byte(bytes, start_offset, 19),
+        hardware_version_minor: byte(bytes, start_offset, 20),
+        dali_101_version: byte(bytes, start_offset, 21),
+        dali_102_version: byte(bytes, start_offset, 22),
+        dali_103_version: byte(bytes, start_offset, 23),
+        logical_control_device_units: byte(bytes, start_offset, 24),
+        logical_control_gear_units: byte(bytes, start_offset, 25),
+        logical_control_gear_index: byte(bytes, start_offset, 26),
+    }
+}
+
+pub fn parse_bank1_profile(bytes: &[u8], start_offset: u16) -> ParsedMemoryProfile
+    ensures { λ r. ⌜ r ≡ bank1Profile «start_offset» (now (bytes .entry)) ⌝ }
+{
+    ParsedMemoryProfile {
+        bank1_lock_byte: byte(bytes, start_offset, 2),
+        oem_gtin: parse_be_u64(bytes, start_offset, 3, 6),
+        oem_identification_number: parse_be_u64(bytes, start_offset, 9, 8),
+    }
+}
+
+pub struct ParsedBusUnit {
+    pub configuration: OptionU8,
+    pub implemented_parts: OptionU8,
+}
+
+pub fn parse_bank0_bus_unit(bytes: &[u8], start_offset: u16) -> ParsedBusUnit
+    ensures { λ r. ⌜ r ≡ bank0BusUnit «start_offset» (now (bytes .entry)) ⌝ }
+{
+    ParsedBusUnit {
+        configuration: byte(bytes, start_offset, BUS_UNIT_CONFIGURATION_OFFSET as usize),
+        implemented_parts: byte(bytes, start_offset, IMPLEMENTED_PARTS_OFFSET as usize),
+    }
+}
+
+// Whether a text's region is wholly present.
+pub fn text_present(bytes: &[u8], start_offset: u16, region: TextRegion) -> bool
+    ensures { λ r. ⌜ r ≡ textPresent «start_offset» (now (bytes .entry)) region ⌝ }
+{
+    holds(bytes, start_offset, region.offset as usize, region.len as usize)
+}
+
+// How many bytes stand before the first 00.
+fn text_len(raw: &[u8]) -> usize
+    ensures { λ r. ⌜ (r ≤ length (now (raw .entry))) × (take r (now (raw .entry)) ≡ untilZero (now (raw .entry))) ⌝ }
+{
+    let mut i = 0;
+    while i < raw.len() {
+        if raw[i] == 0 {
+            return i;
+        }
+        i += 1;
+    }
+    i
+}
+
+// The part of a text's region before its first 00; empty where the region is not wholly present.
+pub fn text_bytes(bytes: &[u8], start_offset: u16, region: TextRegion) -> &[u8]
+    ensures { λ r. ⌜ now r ≡ textBytes «start_offset» (now (bytes .entry)) region ⌝ }
+{
+    if !text_present(bytes, start_offset, region) {
+        return &bytes[..0];
+    }
+    let rel = region.offset as usize - start_offset as usize;
+    let end = rel + region.len as usize;
+    let len = text_len(&bytes[rel..end]);
+    let cut = rel + len;
+    &bytes[rel..cut]
+}
+
+// A text field as it is shown.
+pub fn text_region(
+    bytes: &[u8],
+    start_offset: u16,
+    region: TextRegion,
+    limit: TextLimit,
+) -> FixedText
+    ensures { λ r. ⌜ r ≡ textRegion «start_offset» (now (bytes .entry)) region limit ⌝ }
+{
+    if !text_present(bytes, start_offset, region) {
+        return FixedText::absent(limit);
+    }
+    escape_into_bounded(text_bytes(bytes, start_offset, region), limit)
+}
+
+// What a text becomes, byte by byte.
+pub fn escape_into_bounded(raw: &[u8], limit: TextLimit) -> FixedText
+    ensures { λ r. ⌜ r ≡ shownText limit (now (raw .entry)) ⌝ }
+{
+    let room = limit.bytes();
+    let mut bytes = [0u8; 64];
+    let len = escape_into(raw, &mut bytes[..room]);
+    FixedText {
+        present: true,
+        limit,
+        len,
+        bytes,
+    }
+}
+
+// Stores what a text becomes, as far as it fits, and answers how many bytes that are.
+fn escape_into(raw: &[u8], out: &mut [u8]) -> usize
+    ensures count { λ r. ⌜ r ≡ length (escaped (length (now (out .entry))) (now (raw .entry))) ⌝ }
+    ensures stored { λ _. ⌜ now (out .exit) ≡ laidFirst (escaped (length (now (out .entry))) (now (raw .entry))) (now (out .entry)) ⌝ }
+{
+    let mut len = 0;
+    let mut i = 0;
+    while i < raw.len() {
+        let pushed = push_next(&raw[i..], &mut out[len..]);
+        if pushed.len == 0 {
+            return len;
+        }
+        len += pushed.len;
+        i += pushed.taken;
+    }
+    len
+}
+
+// How many bytes of a text were taken, and how many they became.
+struct Pushed {
+    taken: usize,
+    len: usize,
+}
+
+// A well-formed sequence is copied, any other byte becomes its escape.
+fn push_next(rest: &[u8], out: &mut [u8]) -> Pushed
+    requires { ⌜ 0 < length (now rest) ⌝ }
+    ensures answer { λ r. ⌜ r ≡ pushed (now (rest .entry)) (now (out .entry)) ⌝ }
+    ensures stored { λ _. ⌜ now (out .exit) ≡ afterPush (piece (now (rest .entry))) (now (out .entry)) ⌝ }
+{
+    let taken = sequence_len(rest);
+    if taken == 0 {
+        let escape = format_hex_escape(rest[0]);
+        let len = push(&escape, out);
+        return Pushed { taken: 1, len };
+    }
+    let len = push(&rest[..taken], out);
+    Pushed { taken, len }
+}
+
+// Stores a piece at the start of out, and answers its length; nothing of one that does not fit, and 0.
+fn push(piece: &[u8], out: &mut [u8]) -> usize
+    ensures answer { λ r. ⌜ r ≡ cond (leb (length (now (piece .entry))) (length (now (out .entry)))) (length (now (piece .entry))) 0 ⌝ }
+    ensures stored { λ _. ⌜ now (out .exit) ≡ afterPush (now (piece .entry)) (now (out .entry)) ⌝ }
+{
+    if out.len() < piece.len() {
+        return 0;
+    }
+    let mut i = 0;
+    while i < piece.len() {
+        out[i] = piece[i];
+        i += 1;
+    }
+    i
+}
+
+fn format_hex_escape(byte: u8) -> [u8; 4]
+    ensures { λ r. ⌜ r ≡ escape byte ⌝ }
+{
+    [b'\\', b'x', hex_digit(byte / 16), hex_digit(byte % 16)]
+}
+
+fn hex_digit(n: u8) -> u8
+    requires { ⌜ n < 16 ⌝ }
+    ensures { λ r. ⌜ r ≡ hexDigit n ⌝ }
+{
+    if n < 10 {
+        return b'0' + n;
+    }
+    b'A' + (n - 10)
+}
+
+pub struct ParsedEnergyBank {
+    pub bank_version: OptionU8,
+    pub energy_scale: OptionI8,
+    pub energy: OptionBankReading,
+    pub power_scale: OptionI8,
+    pub power: OptionBankReading,
+}
+
+pub fn parse_energy_bank(bytes: &[u8], start_offset: u16) -> ParsedEnergyBank
+    ensures { λ r. ⌜ r ≡ energyBank «start_offset» (now (bytes .entry)) ⌝ }
+{
+    ParsedEnergyBank {
+        bank_version: byte(bytes, start_offset, 0x03),
+        energy_scale: parse_scale(bytes, start_offset, 0x04),
+        energy: parse_reading(bytes, start_offset, 0x05, ValueWidth::U48),
+        power_scale: parse_scale(bytes, start_offset, 0x0B),
+        power: parse_reading(bytes, start_offset, 0x0C, ValueWidth::U32),
+    }
+}
+
+pub struct ParsedCondition {
+    pub flag: OptionBankReading,
+    pub counter: OptionBankReading,
+}
+
+fn parse_condition(bytes: &[u8], start_offset: u16, flag_offset: u8) -> ParsedCondition
+    requires { ⌜ «flag_offset» < 255 ⌝ }
+    ensures { λ r. ⌜ r ≡ condition «start_offset» (now (bytes .entry)) «flag_offset» ⌝ }
+{
+    ParsedCondition {
+        flag: parse_reading(bytes, start_offset, flag_offset, ValueWidth::U8),
+        counter: parse_reading(bytes, start_offset, flag_offset + 1, ValueWidth::U8),
+    }
+}
+
+// DiiA 253 §9.2.16
+pub struct ParsedGearDiagnostics {
+    pub bank_version: OptionU8,
+    pub operating_time_s: OptionBankReading,
+    pub start_counter: OptionBankReading,
+    pub supply_voltage_decivolt: OptionBankReading,
+    pub supply_frequency_hz: OptionBankReading,
+    pub power_factor_centi: OptionBankReading,
+    pub overall_failure: ParsedCondition,
+    pub undervoltage: ParsedCondition,
+    pub overvoltage: ParsedCondition,
+    pub output_power_limitation: ParsedCondition,
+    pub thermal_derating: ParsedCondition,
+    pub thermal_shutdown: ParsedCondition,
+    pub temperature_offset60: OptionBankReading,
+    pub output_current_percent: OptionBankReading,
+}
+
+pub fn parse_gear_diagnostics(bytes: &[u8], start_offset: u16) -> ParsedGearDiagnostics
+    ensures { λ r. ⌜ r ≡ gearDiagnostics «start_offset» (now (bytes .entry)) ⌝ }
+{
+    ParsedGearDiagnostics {
+        bank_version: byte(bytes, start_offset, 0x03),
+        operating_time_s: parse_reading(bytes, start_offset, 0x04, ValueWidth::U32),
+        start_counter: parse_reading(bytes, start_offset, 0x08, ValueWidth::U24),
+        supply_voltage_decivolt: parse_reading(bytes, start_offset, 0x0B, ValueWidth::U16),
+        supply_frequency_hz: parse_reading(bytes, start_offset, 0x0D, ValueWidth::U8),
+        power_factor_centi: parse_reading(bytes, start_offset, 0x0E, ValueWidth::U8),
+        overall_failure: parse_condition(bytes, start_offset, 0x0F),
+        undervoltage: parse_condition(bytes, start_offset, 0x11),
+        overvoltage: parse_condition(bytes, start_offset, 0x13),
+        output_power_limitation: parse_condition(bytes, start_offset, 0x15),
+        thermal_derating: parse_condition(bytes, start_offset, 0x17),
+        thermal_shutdown: parse_condition(bytes, start_offset, 0x19),
+        temperature_offset60: parse_reading(bytes, start_offset, 0x1B, ValueWidth::U8),
+        output_current_percent: parse_reading(bytes, start_offset, 0x1C, ValueWidth::U8),
+    }
+}
+
+// DiiA 253 §9.2.17
+pub struct ParsedSourceDiagnostics {
+    pub bank_version: OptionU8,
+    pub start_counter_resettable: OptionBankReading,
+    pub start_counter: OptionBankReading,
+    pub on_time_resettable_s: OptionBankReading,
+    pub on_time_s: OptionBankReading,
+    pub voltage_decivolt: OptionBankReading,
+    pub current_milliamp: OptionBankReading,
+    pub overall_failure: ParsedCondition,
+    pub short_circuit: ParsedCondition,
+    pub open_circuit: ParsedCondition,
+    pub thermal_derating: ParsedCondition,
+    pub thermal_shutdown: ParsedCondition,
+    pub temperature_offset60: OptionBankReading,
+}
+
+pub fn parse_source_diagnostics(bytes: &[u8], start_offset: u16) -> ParsedSourceDiagnostics
+    ensures { λ r. ⌜ r ≡ sourceDiagnostics «start_offset» (now (bytes .entry)) ⌝ }
+{
+    ParsedSourceDiagnostics {
+        bank_version: byte(bytes, start_offset, 0x03),
+        start_counter_resettable: parse_reading(bytes, start_offset, 0x04, ValueWidth::U24),
+        start_counter: parse_reading(bytes, start_offset, 0x07, ValueWidth::U24),
+        on_time_resettable_s: parse_reading(bytes, start_offset, 0x0A, ValueWidth::U32),
+        on_time_s: parse_reading(bytes, start_offset, 0x0E, ValueWidth::U32),
+        voltage_decivolt: parse_reading(bytes, start_offset, 0x12, ValueWidth::U16),
+        current_milliamp: parse_reading(bytes, start_offset, 0x14, ValueWidth::U16),
+        overall_failure: parse_condition(bytes, start_offset, 0x16),
+        short_circuit: parse_condition(bytes, start_offset, 0x18),
+        open_circuit: parse_condition(bytes, start_offset, 0x1A),
+        thermal_derating: parse_condition(bytes, start_offset, 0x1C),
+        thermal_shutdown: parse_condition(bytes, start_offset, 0x1E),
+        temperature_offset60: parse_reading(bytes, start_offset, 0x20, ValueWidth::U8),
+    }
+}
+
+pub struct ParsedLuminaireMaintenance {
+    pub bank_version: OptionU8,
+    pub rated_life_kilohours: OptionBankReading,
+    pub reference_temperature_offset60: OptionBankReading,
+    pub rated_starts_hundreds: OptionBankReading,
+}
+
+pub fn parse_luminaire_maintenance(bytes: &[u8], start_offset: u16) -> ParsedLuminaireMaintenance
+    ensures { λ r. ⌜ r ≡ luminaireMaintenance «start_offset» (now (bytes .entry)) ⌝ }
+{
+    ParsedLuminaireMaintenance {
+        bank_version: byte(bytes, start_offset, 0x03),
+        rated_life_kilohours: parse_reading(bytes, start_offset, 0x04, ValueWidth::U8),
+        reference_temperature_offset60: parse_reading(bytes, start_offset, 0x05, ValueWidth::U8),
+        rated_starts_hundreds: parse_reading(bytes, start_offset, 0x06, ValueWidth::U16),
+    }
+}
