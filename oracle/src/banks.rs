@@ -43,7 +43,7 @@ pub const FUNCTIONS: &[&dyn Function] = &[
     &Row::new(0x0D, "a byte as i8", |raw: u8| raw as i8, |_| (0..=u8::MAX).collect()),
 ];
 
-const WIDTHS: [ValueWidth; 8] = [
+pub const WIDTHS: [ValueWidth; 8] = [
     ValueWidth::U8,
     ValueWidth::U16,
     ValueWidth::U24,
@@ -123,7 +123,7 @@ fn random_at_width<A>(source: &mut Source, case: fn(ValueWidth, u64) -> A) -> A 
     case(width, random_raw(&mut source.rng, width))
 }
 
-fn random_raw(rng: &mut Rng, width: ValueWidth) -> u64 {
+pub fn random_raw(rng: &mut Rng, width: ValueWidth) -> u64 {
     match rng.below(4) {
         0 => rng.number(),
         1 => rng.number_of_any_size(),
@@ -227,13 +227,13 @@ fn ones(width: ValueWidth) -> u64 {
 }
 
 /// The masks, temporary masks and largest readings of both signs in a width's bytes.
-fn telling(width: ValueWidth) -> Vec<u64> {
+pub fn telling(width: ValueWidth) -> Vec<u64> {
     let masks = [ones(width), ones(width) >> 1];
     masks.into_iter().flat_map(|mask| [mask, mask - 1, mask - 2]).collect()
 }
 
 /// Writes as much of a raw value as there is room for at the offset.
-fn write(bytes: &mut [u8], offset: usize, width: ValueWidth, raw: u64) {
+pub fn write(bytes: &mut [u8], offset: usize, width: ValueWidth, raw: u64) {
     let encoded = raw.to_be_bytes();
     let low = &encoded[encoded.len() - width.bytes()..];
     for (slot, byte) in bytes.iter_mut().skip(offset).zip(low) {

@@ -4,7 +4,7 @@ use std::io;
 
 use crate::line::{Args, Line, Put, Take};
 use crate::rng::Rng;
-use crate::{banks, layout, luminaire_write, part251, read_out};
+use crate::{banks, bus_unit, identity, layout, luminaire_write, memory_bank_parser, part251, read_out};
 
 /// How many cases to make.
 #[derive(Clone, Copy)]
@@ -122,8 +122,16 @@ impl<A: Put + Take, R: Put> Function for Row<A, R> {
 }
 
 /// The tables, each at the high digit of its numbers.
-const TABLES: [&[&dyn Function]; 5] =
-    [banks::FUNCTIONS, layout::FUNCTIONS, part251::FUNCTIONS, luminaire_write::FUNCTIONS, read_out::FUNCTIONS];
+const TABLES: [&[&dyn Function]; 8] = [
+    banks::FUNCTIONS,
+    layout::FUNCTIONS,
+    part251::FUNCTIONS,
+    luminaire_write::FUNCTIONS,
+    read_out::FUNCTIONS,
+    identity::FUNCTIONS,
+    bus_unit::FUNCTIONS,
+    memory_bank_parser::FUNCTIONS,
+];
 
 /// Every function, in the order of the numbers.
 pub fn functions() -> impl Iterator<Item = &'static dyn Function> {

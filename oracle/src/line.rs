@@ -123,7 +123,7 @@ macro_rules! tuples {
     )*};
 }
 
-tuples!((A B)(A B C)(A B C D));
+tuples!((A B)(A B C)(A B C D)(A B C D E F G H));
 
 impl Put for () {
     fn put(&self, _: &mut Line) {}
@@ -202,17 +202,20 @@ impl<T: Put, const N: usize> Put for [T; N] {
     }
 }
 
-impl Put for Vec<u8> {
+/// A lent slice: its length in elements, then these.
+impl<T: Put> Put for Vec<T> {
     fn put(&self, line: &mut Line) {
         line.put(&(self.len() as u16));
-        line.bytes(self);
+        for element in self {
+            line.put(element);
+        }
     }
 }
 
-impl Take for Vec<u8> {
+impl<T: Take> Take for Vec<T> {
     fn take(args: &mut Args) -> Option<Self> {
         let length: u16 = args.take()?;
-        (0..length).map(|_| args.byte()).collect()
+        (0..length).map(|_| args.take()).collect()
     }
 }
 

@@ -351,11 +351,11 @@ fn texts_with_a_letter(source: &mut Source, field: LuminaireField, cases: &mut V
 }
 
 /// Every place below the end, or the first and the last.
-fn places(scale: Scale, end: usize) -> Vec<usize> {
+pub fn places(scale: Scale, end: usize) -> Vec<usize> {
     scale.pick((0..end).collect(), vec![0, end - 1])
 }
 
-fn printable(rng: &mut Rng, length: usize) -> Vec<u8> {
+pub fn printable(rng: &mut Rng, length: usize) -> Vec<u8> {
     (0..length).map(|_| b' ' + rng.below(95) as u8).collect()
 }
 

@@ -2,11 +2,14 @@
 
 mod banks;
 mod block;
+mod bus_unit;
 mod compare;
 mod function;
+mod identity;
 mod layout;
 mod line;
 mod luminaire_write;
+mod memory_bank_parser;
 mod part251;
 mod read_out;
 mod rng;

@@ -60,10 +60,11 @@ fn constants(_: ()) -> ([u8; 14], [TextRegion; 6], u8) {
         CCT_OFFSET,
         LIGHT_DISTRIBUTION_TYPE_OFFSET,
     ];
-    let texts =
-        [LUMINAIRE_COLOUR, LUMINAIRE_IDENTIFICATION, LIGHT_DISTRIBUTION, OEM_NAME, CUSTOMER_STOCKING_NUMBER, FREE_USE];
-    (numbers, texts, LAMP_CURRENT_OFFSET)
+    (numbers, REGIONS, LAMP_CURRENT_OFFSET)
 }
+
+pub const REGIONS: [TextRegion; 6] =
+    [LUMINAIRE_COLOUR, LUMINAIRE_IDENTIFICATION, LIGHT_DISTRIBUTION, OEM_NAME, CUSTOMER_STOCKING_NUMBER, FREE_USE];
 
 pub const FORMATS: [LuminaireFormat; 3] = [LuminaireFormat::V3, LuminaireFormat::V4, LuminaireFormat::V5];
 
@@ -82,6 +83,13 @@ impl Take for LuminaireFormat {
 impl Put for TextRegion {
     fn put(&self, line: &mut Line) {
         line.put(&(self.offset, self.len));
+    }
+}
+
+impl Take for TextRegion {
+    fn take(args: &mut Args) -> Option<Self> {
+        let (offset, len) = args.take()?;
+        Some(Self { offset, len })
     }
 }
 
@@ -120,7 +128,7 @@ fn ids(source: &mut Source) -> Vec<u16> {
 }
 
 /// Every byte, or those around a rule's edges.
-fn bytes(source: &Source, edges: &[u8]) -> Vec<u8> {
+pub fn bytes(source: &Source, edges: &[u8]) -> Vec<u8> {
     let every = (0..=u8::MAX).collect();
     source.scale.pick(every, edges.to_vec())
 }

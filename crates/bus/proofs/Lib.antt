@@ -1,5 +1,6 @@
 pub mod Tests
 pub mod Lists
+pub mod Options
 pub mod Contiguous
 pub mod Number
 pub mod Width

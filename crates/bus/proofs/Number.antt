@@ -7,7 +7,7 @@ use native.Mathlib.Nat.{mul-assoc, le-of-suc-le-suc, not-suc-le-zero}
 use native.Mathlib.Numerals.{add-one}
 use native.Mathlib.Omega.{arith}
 use lib.ListN.{length, getD, take, drop, length-append, length-drop}
-use lib.Seq.{take-suc, getD-drop}
+use lib.Seq.{take-suc, drop-cons, getD-drop}
 use lib.Pow.{pow-add, mod-pow-add}
 use Rattle.bus.specs.Number.{number, lowBytes}
 
@@ -31,6 +31,10 @@ number-next bs o i h =
     let k : i < length (drop o bs) = rw length-drop (omega arith) in
     ap number (rw (add-one, take-suc (drop o bs) i 0 k, getD-drop))
     ∙ number-snoc (take i (drop o bs)) (getD bs (o + i) 0)
+
+pub number-one : (bs : List ℕ) (o : ℕ) → o < length bs → number (take 1 (drop o bs)) ≡ getD bs o 0
+unfolding number
+number-one bs o h = rw (drop-cons bs o 0 h) (omega arith)
 
 pub length-lowBytes : (n v : ℕ) → length (lowBytes n v) ≡ n
 unfolding lowBytes

@@ -5,7 +5,7 @@ use mathlib.Core.Bool.{Bool, cond}
 use mathlib.Core.List.{List, [], _∷_, _++_}
 use mathlib.Core.Option.{Option, none, some}
 use Prim.Native.Nat.{ℕ, _+_, _/_, _%_, _^_}
-use lib.Dec.{eqb, leb, ltb}
+use lib.Dec.{eqb, leb}
 use lib.ListN.{length, take, drop}
 use Rattle.bus.specs.Maps.{firstWith}
 use Rattle.records.specs.declared.bus_unit.EmergencyGearType.{EmergencyGearType}
@@ -40,6 +40,10 @@ rawOf (EmergencyType t) = gearByte t
 rawOf (Reserved n) = n
 rawOf (ManufacturerSpecific n) = n
 
+-- the type of emergency gear that a byte stands for
+unfoldable pub emergency : ℕ → Option EmergencyGearType
+emergency n = firstWith (λ t. eqb n (gearByte t)) (A ∷ B ∷ C ∷ D ∷ [])
+
 abbrev configuration : ℕ → Option EmergencyGearType → BusUnitConfiguration
 configuration n (some t) = EmergencyType t
 configuration n none = cond (leb n 8) (Defined n) (cond (leb n 191) (Reserved n) (ManufacturerSpecific n))
@@ -47,10 +51,11 @@ configuration n none = cond (leb n 8) (Defined n) (cond (leb n 191) (Reserved n)
 -- the configuration of each byte: 0 to 8 are defined, 9 to 12 emergency gear, those to 191 reserved, the others the
 -- manufacturer's
 unfoldable pub fromByte : ℕ → BusUnitConfiguration
-fromByte n = configuration n (firstWith (λ t. eqb n (gearByte t)) (A ∷ B ∷ C ∷ D ∷ []))
+fromByte n = configuration n (emergency n)
 
+-- bits 0 to 4 have a meaning: no higher one is set
 abbrev pub inRange : ℕ → Bool
-inRange raw = ltb raw (2 ^ 5)
+inRange raw = eqb (raw / 2 ^ 5) 0
 
 -- "bits 0 to 4 are parts 150 to 154"
 abbrev pub partOf : ℕ → ℕ → List ℕ

@@ -57,8 +57,11 @@ abbrev pub readingAt : ℕ → List ℕ → ℕ → ValueWidth → Option BankRe
 readingAt start bytes o w = Option·map (λ bs. readingOf w (classified w (number bs))) (fieldAt start bytes o (bytesOf w))
 
 -- "A scale is the signed meaning of its byte, present only from −6 to 6."
+abbrev pub isScale : ℤ → Bool
+isScale z = leZ (negℤ (pos 6)) z && leZ z (pos 6)
+
 abbrev pub scaleOf : ℕ → Option ℤ
-scaleOf b = cond (leZ (negℤ (pos 6)) (signedMeaning 8 b) && leZ (signedMeaning 8 b) (pos 6)) (some (signedMeaning 8 b)) none
+scaleOf b = cond (isScale (signedMeaning 8 b)) (some (signedMeaning 8 b)) none
 
 abbrev pub scaleIn : Option ℕ → Option ℤ
 scaleIn none = none

@@ -1,7 +1,7 @@
 // What a bus unit is made of (bus_unit.rs, DiiA 098bp §7.2.7).
 use bus::OptionU8;
 ghost use mathlib.Core.Path.{_≡_};
-ghost use lib.ListN.{length};
+ghost use lib.ListN.{length, set};
 ghost use Rattle.bus.specs.Options.{optionU8};
 ghost use Rattle.records.specs.BusUnit.{letterOf, emergencyLetter, fromByte, rawOf, inRange, partsOf, partsLaid};
 
@@ -14,8 +14,6 @@ pub const BANK0_EXTENDED_LAST_OFFSET: u8 = IMPLEMENTED_PARTS_OFFSET;
 const FIRST_IMPLEMENTED_PART: u16 = 150;
 
 const IMPLEMENTED_PART_BITS: u8 = 5;
-
-const IMPLEMENTED_PARTS_DEFINED_MASK: u8 = 0x1F;
 
 pub enum BusUnitConfiguration {
     Defined(u8),
@@ -106,7 +104,7 @@ impl ImplementedParts {
     pub fn in_range(self) -> bool
         ensures { λ r. ⌜ r ≡ inRange (self .0) ⌝ }
     {
-        self.0 <= IMPLEMENTED_PARTS_DEFINED_MASK
+        self.0 >> IMPLEMENTED_PART_BITS == 0
     }
 
     // Stores the parts from the start of out on, as many as it holds, and answers how many there are.
@@ -121,13 +119,20 @@ impl ImplementedParts {
         let mut bit = 0;
         while bit < IMPLEMENTED_PART_BITS {
             if (self.0 >> bit) % 2 == 1 {
-                if count < out.len() {
-                    out[count] = FIRST_IMPLEMENTED_PART + bit as u16;
-                }
+                store(out, count, FIRST_IMPLEMENTED_PART + bit as u16);
                 count += 1;
             }
             bit += 1;
         }
         count
+    }
+}
+
+// Stores a part at an index, where the slice has one.
+fn store(out: &mut [u16], at: usize, part: u16)
+    ensures { λ _. ⌜ now (out .exit) ≡ set (now (out .entry)) at part ⌝ }
+{
+    if at < out.len() {
+        out[at] = part;
     }
 }

@@ -31,7 +31,7 @@ ghost use lib.Dec.{leb};
 ghost use Rattle.bus.specs.Options.{optionU8, optionU64};
 ghost use Rattle.bus.specs.Value.{notImplemented};
 ghost use Rattle.records.specs.Options.{optionI8, optionBankReading};
-ghost use Rattle.records.specs.Places.{fieldAt, isThere, byteAt, numberAt, readingOf, readingAt, scaleOf, scaleAt};
+ghost use Rattle.records.specs.Places.{fieldAt, isThere, byteAt, numberAt, readingOf, readingAt, isScale, scaleOf, scaleAt};
 ghost use Rattle.records.specs.Records.{bank0Identity, bank1Profile, bank0BusUnit, energyBank, condition, gearDiagnostics, sourceDiagnostics, luminaireMaintenance};
 ghost use Rattle.records.specs.Text.{untilZero, textBytes, textPresent, hexDigit, escape, piece, escaped, laidFirst, pushed, afterPush, shownText, textRegion};
 
@@ -67,7 +67,10 @@ fn holds(bytes: &[u8], start_offset: u16, offset: usize, len: usize) -> bool
     if bytes.len() < len {
         return false;
     }
-    offset - start_offset as usize <= bytes.len() - len
+    if bytes.len() - len < offset - start_offset as usize {
+        return false;
+    }
+    true
 }
 
 fn parse_be_u64(bytes: &[u8], start_offset: u16, start: usize, len: usize) -> OptionU64
@@ -138,14 +141,17 @@ pub fn parse_reading(
     }
 }
 
+fn is_scale(signed: i8) -> bool
+    ensures { λ r. ⌜ r ≡ isScale signed ⌝ }
+{
+    -6 <= signed && signed <= 6
+}
+
 fn scale_of(raw: u8) -> OptionI8
     ensures { λ r. ⌜ r ≡ optionI8 (scaleOf raw) ⌝ }
 {
     let signed = signed_byte(raw);
-    if signed < -6 {
-        return OptionI8::None;
-    }
-    if 6 < signed {
+    if !is_scale(signed) {
         return OptionI8::None;
     }
     OptionI8::Some(signed)

@@ -1,5 +1,5 @@
-//! Stands in for the crate of this name, which is not published: `luminaire_write.rs` names these types, and the
-//! modules beside it do not compile without it. The values of the patch bits are this stand-in's own.
+//! Stands in for the crate of this name, which is not published: `luminaire_write.rs` and `memory_bank_parser.rs` name
+//! these types, and do not compile without it. The values of the patch bits are this stand-in's own.
 
 pub mod msg {
     use std::convert::Infallible;
@@ -66,5 +66,42 @@ pub mod msg {
     pub struct LuminaireTextWrite {
         pub field: LuminaireTextField,
         pub text: LuminaireText,
+    }
+
+    /// A text of at most `N` bytes. What does not fit whole is refused, and no part of it enters.
+    #[derive(Debug, Clone, Default, PartialEq, Eq)]
+    pub struct FixedText<const N: usize>(String);
+
+    pub type FixedText32 = FixedText<32>;
+    pub type FixedText64 = FixedText<64>;
+
+    /// Refuses what does not fit.
+    #[derive(Debug, Clone, Copy, PartialEq, Eq)]
+    pub struct Full;
+
+    impl<const N: usize> FixedText<N> {
+        pub fn new() -> Self {
+            Self::default()
+        }
+
+        pub fn push(&mut self, letter: char) -> Result<(), Full> {
+            self.push_str(letter.encode_utf8(&mut [0; 4]))
+        }
+
+        pub fn push_str(&mut self, text: &str) -> Result<(), Full> {
+            if self.0.len() + text.len() > N {
+                return Err(Full);
+            }
+            self.0.push_str(text);
+            Ok(())
+        }
+
+        pub fn as_str(&self) -> &str {
+            &self.0
+        }
+
+        pub fn as_bytes(&self) -> &[u8] {
+            self.0.as_bytes()
+        }
     }
 }

@@ -8,3 +8,5 @@
 pub mod dali {
     pub mod banks;
 }
+
+pub mod registry;

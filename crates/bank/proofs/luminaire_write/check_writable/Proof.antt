@@ -10,7 +10,7 @@ use Rattle.bank.specs.declared.refusal.Refusal.the-variants.{FieldNotInF
 use Rattle.bank.specs.Refusal.{firstOf}
 use Rattle.bank.specs.Fields.{endsBy}
 use Rattle.bank.specs.Writable.{readOnly, missing, formatIn, writeChecks, checkWritable}
-use Rattle.bank.proofs.Options.{told-format}
+use Rattle.bus.proofs.Options.{told-format}
 use Rattle.bank.proofs.luminaire_write.check_writable.Statement.{statement}
 use Rattle.bank.proofs.luminaire_write.check_writable.Tie as tie
 

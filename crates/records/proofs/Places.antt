@@ -1,0 +1,52 @@
+-- Laws of a place: whether its bytes are all present, and what they are.
+-- Assumes nothing.
+use mathlib.Core.Path.{_≡_, refl, sym, ap, _∙_}
+use mathlib.Core.Bool.{Bool, true, false, cond}
+use mathlib.Core.List.{List}
+use mathlib.Core.Option.{none, some, Option·map}
+use Prim.Native.Nat.{ℕ, _+_, _-_, _≤_, _<_}
+use native.Mathlib.Numerals.{add-one}
+use borrow.Author.Tests.{le-leb, lt-leb}
+use lib.Dec.{eqb, leb}
+use lib.ListN.{length, getD, take, drop, drop-of-length-le}
+use lib.Seq.{drop-cons}
+use Rattle.bus.specs.declared.ValueWidth.{ValueWidth}
+use Rattle.bus.specs.Number.{number}
+use Rattle.bus.specs.Width.{bytesOf}
+use Rattle.bus.specs.Value.{classified, readAt}
+use Rattle.records.specs.Places.{fieldAt, allFF, readingOf, readingAt}
+
+module _ (start : ℕ) (bytes : List ℕ) (o n : ℕ) where
+  pub before : o < start → fieldAt start bytes o n ≡ none
+  before h = rw (lt-leb start o h)
+
+  pub behind : start ≤ o → length bytes < o - start + n → fieldAt start bytes o n ≡ none
+  behind h k = rw (le-leb start o h, lt-leb (o - start + n) (length bytes) k)
+
+  pub whole : start ≤ o → o - start + n ≤ length bytes → fieldAt start bytes o n ≡ some (take n (drop (o - start) bytes))
+  whole h k = rw (le-leb start o h, le-leb (o - start + n) (length bytes) k)
+
+-- from the start offset on, a reading is what is read at the place itself
+pub read-behind : (start : ℕ) (bytes : List ℕ) (o : ℕ) (w : ValueWidth) → start ≤ o → readingAt start bytes o w ≡ Option·map (readingOf w) (readAt w (o - start) bytes)
+read-behind start bytes o w h = rw (le-leb start o h) (by (leb (o - start + bytesOf w) (length bytes)))
+  where
+    by :
+        (b : Bool) →
+        Option·map (λ bs. readingOf w (classified w (number bs))) (cond b (some (take (bytesOf w) (drop (o - start) bytes))) none)
+        ≡ Option·map (readingOf w) (Option·map (λ bs. classified w (number bs)) (cond b (some (take (bytesOf w) (drop (o - start) bytes))) none))
+    by true = refl
+    by false = refl
+
+-- bytes that are all FF, from byte i on
+module _ (bytes : List ℕ) (i : ℕ) where
+  pub not-FF : i < length bytes → eqb (getD bytes i 0) 0xFF ≡ false → allFF (drop i bytes) ≡ false
+  unfolding allFF
+  not-FF h e = rw (drop-cons bytes i 0 h, e)
+
+  pub next-FF : i < length bytes → eqb (getD bytes i 0) 0xFF ≡ true → allFF (drop i bytes) ≡ allFF (drop (i + 1) bytes)
+  unfolding allFF
+  next-FF h e = rw (drop-cons bytes i 0 h, e, add-one)
+
+  pub end-FF : length bytes ≤ i → allFF (drop i bytes) ≡ true
+  unfolding allFF
+  end-FF h = rw (drop-of-length-le bytes {i = i} h)

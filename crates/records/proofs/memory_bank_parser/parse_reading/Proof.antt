@@ -1,0 +1,62 @@
+-- `records::memory_bank_parser::parse_reading` meets its contract: from the start offset on it is what `read_value` says.
+-- Assumes nothing.
+use mathlib.Core.Option.{Option, Option·map}
+use Prim.Native.Nat.{_-_}
+use native.Mathlib.Omega.{arith}
+use borrow.Author.Needs.{needs}
+use Rattle.bus.specs.declared.BankValue.{BankValue}
+use Rattle.bus.specs.Value.{readAt}
+use Rattle.bus.proofs.Options.{told-value}
+use Rattle.records.specs.Places.{readingAt}
+use Rattle.records.proofs.Places.{before, read-behind}
+use Rattle.records.proofs.memory_bank_parser.parse_reading.Statement.{statement}
+use Rattle.records.proofs.memory_bank_parser.parse_reading.Tie as tie
+
+returns : tie.Need-returns
+returns c =
+    let a = c .before .before .args in
+    rw (before (a .start-offset) (a .bytes .now) (a .offset) _ (omega arith))
+
+sub-rel : tie.Need-sub-rel
+sub-rel c = search needs
+
+cast-read-value : tie.Need-cast-read-value
+cast-read-value c = search needs
+
+read-value-requires : tie.Need-read-value-requires
+read-value-requires c κs = search needs
+
+enum-known-raw : tie.Need-enum-known-raw
+enum-known-raw c = search needs
+
+reading-of-requires : tie.Need-reading-of-requires
+reading-of-requires c κs = search needs
+
+enum-told : tie.Need-enum-told
+enum-told c = search needs
+
+returns-2 : tie.Need-returns-2
+returns-2 c =
+    let r = c .before .before .before .before in
+    let a = r .before .before .before .args in
+    rw (read-behind (a .start-offset) (a .bytes .now) (a .offset) (a .width) (omega arith), told-value (readAt (a .width) (a .offset - a .start-offset) (a .bytes .now)) (r .read-value .ensures) (c .before .before .raw .given .1), c .reading-of .ensures)
+
+returns-3 : tie.Need-returns-3
+returns-3 c =
+    let r = c .before .before in
+    let a = r .before .before .before .args in
+    rw (read-behind (a .start-offset) (a .bytes .now) (a .offset) (a .width) (omega arith), told-value (readAt (a .width) (a .offset - a .start-offset) (a .bytes .now)) (r .read-value .ensures) (c .enum-told .given .1))
+
+pub parse-reading-spec : {M : Type 1} → statement M
+parse-reading-spec =
+    tie.close
+    (tie.spec
+    returns
+    sub-rel
+    cast-read-value
+    read-value-requires
+    enum-known-raw
+    reading-of-requires
+    enum-told
+    returns-2
+    returns-3)
