@@ -1,4 +1,4 @@
-//! The functions of `memory_bank_parser.rs`.
+//! The functions of `memory_bank_parser.rs`. Their cases are made in the files of its folder.
 
 mod fields;
 mod records;
@@ -14,11 +14,14 @@ use dali2rust_registry_runtime::memory_bank_parser::asked::{
 
 use crate::function::{Function, Row};
 use crate::line::{Args, Line, Output, Put, Sequence, Take};
-use fields::{byte_cases, random_byte, random_reading, random_scale, reading_cases, scale_cases};
-use fields::{ByteCase, ReadingCase, ScaleCase};
+use fields::{
+    byte_cases, random_byte, random_reading, random_scale, reading_cases, scale_cases, ByteCase, ReadingCase, ScaleCase,
+};
 use records::{random_record, record_cases, RecordCase};
-use texts::{escape_cases, every_sequence, random_escape, EscapeCase};
-use texts::{random_region, random_text_case, region_cases, text_cases, RegionCase, TextCase};
+use texts::{
+    escape_cases, every_sequence, random_escape, random_region, random_text_case, region_cases, text_cases, EscapeCase,
+    RegionCase, TextCase,
+};
 
 pub const FUNCTIONS: &[&dyn Function] = &[
     &Row::new(0x70, "byte", |(start, index, bytes): ByteCase| byte(&bytes, start, index), byte_cases)

@@ -1,6 +1,6 @@
 -- Laws of tests: a test of two parts, and a proof by the outcome of a test.
 -- Assumes nothing.
-use mathlib.Core.Path.{_≡_, refl}
+use mathlib.Core.Path.{_≡_, refl, sym, subst}
 use mathlib.Core.Bool.{Bool, true, false, _&&_}
 use lib.Dec.{T}
 
@@ -11,6 +11,9 @@ and-left false b t = t
 pub and-right : (a b : Bool) → T (a && b) → T b
 and-right true b t = t
 and-right false b t = absurd t
+
+pub no-yes : false ≡ true → ⊥
+no-yes e = subst T (sym e) tt
 
 pub by-test : {P : Type 0} (b : Bool) → (b ≡ true → P) → (b ≡ false → P) → P
 by-test true f g = f refl

@@ -1,2 +1,3 @@
 pub mod Places
+pub mod Texts
 pub mod Cases

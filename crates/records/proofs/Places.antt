@@ -6,7 +6,7 @@ use mathlib.Core.List.{List}
 use mathlib.Core.Option.{none, some, Option·map}
 use Prim.Native.Nat.{ℕ, _+_, _-_, _≤_, _<_}
 use native.Mathlib.Numerals.{add-one}
-use borrow.Author.Tests.{le-leb, lt-leb}
+use borrow.Author.Tests.{le-leb, lt-leb, leb-true}
 use lib.Dec.{eqb, leb}
 use lib.ListN.{length, getD, take, drop, drop-of-length-le}
 use lib.Seq.{drop-cons}
@@ -14,7 +14,8 @@ use Rattle.bus.specs.declared.ValueWidth.{ValueWidth}
 use Rattle.bus.specs.Number.{number}
 use Rattle.bus.specs.Width.{bytesOf}
 use Rattle.bus.specs.Value.{classified, readAt}
-use Rattle.records.specs.Places.{fieldAt, allFF, readingOf, readingAt}
+use Rattle.bus.proofs.Tests.{by-test, no-yes}
+use Rattle.records.specs.Places.{fieldAt, isThere, allFF, readingOf, readingAt}
 
 module _ (start : ℕ) (bytes : List ℕ) (o n : ℕ) where
   pub before : o < start → fieldAt start bytes o n ≡ none
@@ -50,3 +51,31 @@ module _ (bytes : List ℕ) (i : ℕ) where
   pub end-FF : length bytes ≤ i → allFF (drop i bytes) ≡ true
   unfolding allFF
   end-FF h = rw (drop-of-length-le bytes {i = i} h)
+
+-- what a field that is there says of its place, and of its bytes
+pub record There (start : ℕ) (bytes : List ℕ) (o n : ℕ) : Type 0 where
+  pub from : start ≤ o
+  pub within : o - start + n ≤ length bytes
+  pub is : fieldAt start bytes o n ≡ some (take n (drop (o - start) bytes))
+
+module _ (start : ℕ) (bytes : List ℕ) (o n : ℕ) where
+  pub is-there : isThere (fieldAt start bytes o n) ≡ true → There start bytes o n
+  is-there e =
+      by-test (leb start o)
+      (λ s.
+      by-test (leb (o - start + n) (length bytes))
+      (λ t.
+      let h = leb-true start o s in
+      let k = leb-true (o - start + n) (length bytes) t in
+      record { from = h; within = k; is = whole start bytes o n h k })
+      (λ t. absurd (no-yes (rw (s, t) at e))))
+      (λ s. absurd (no-yes (rw s at e)))
+
+  pub not-there : isThere (fieldAt start bytes o n) ≡ false → fieldAt start bytes o n ≡ none
+  not-there e =
+      by-test (leb start o)
+      (λ s.
+      by-test (leb (o - start + n) (length bytes))
+      (λ t. absurd (no-yes (sym (rw (s, t) at e))))
+      (λ t. rw (s, t)))
+      (λ s. rw s)

@@ -11,17 +11,17 @@ pub type ByteCase = (u16, usize, Vec<u8>);
 pub type ReadingCase = (u16, u8, ValueWidth, Vec<u8>);
 pub type ScaleCase = (u16, u8, Vec<u8>);
 
-/// Indices around the first and the last byte given, and far out.
+/// Indices around the first and the last byte given; far out; and such that a part of their bits is the first byte's.
 pub fn byte_cases(source: &mut Source) -> Vec<ByteCase> {
     let starts: &[u16] = source.scale.pick(&[0, 1, 2, 5, 40, 0xFF, 0x100, 0x7FFF, 0xFFFF], &[0, 3, 0xFFFF]);
     let lengths = source.scale.pick(0..=6, 2..=2);
-    let far: &[usize] = source.scale.pick(&[1 << 16, 1 << 32, 1 << 63, usize::MAX - 1, usize::MAX], &[usize::MAX]);
     let mut cases = Vec::new();
     for start in starts {
         for length in lengths.clone() {
             let first = usize::from(*start);
             let near = first.saturating_sub(2)..=first + length;
-            for index in near.chain(far.iter().copied()) {
+            let far = [first + (1 << 16), first + (1 << 32), first + (1 << 63), usize::MAX];
+            for index in near.chain(far) {
                 cases.push((*start, index, source.rng.bytes(length)));
             }
         }

@@ -30,7 +30,7 @@ pub fn region_cases(source: &mut Source) -> Vec<RegionCase> {
     cases
 }
 
-/// Start offsets, each with a number of bytes given from there on: the region is whole, or lacks its first or last bytes.
+/// Start offsets, each with how many bytes are given from there on: the region is whole, or lacks some or all bytes.
 fn stretches(scale: Scale, region: TextRegion) -> Vec<(u16, usize)> {
     let (offset, len) = (u16::from(region.offset), usize::from(region.len));
     let mut every = Vec::new();
@@ -109,8 +109,9 @@ pub fn random_text_case(source: &mut Source) -> TextCase {
     (start, region, source.rng.one_of(&LIMITS), bytes)
 }
 
-/// Letters of one to four bytes.
-const LETTERS: [&[u8]; 4] = [b"A", "é".as_bytes(), "€".as_bytes(), "😀".as_bytes()];
+/// The first and last letters of two, three and four bytes, and those around the gap, behind a plain one.
+const LETTERS: [&str; 9] =
+    ["A", "\u{80}", "\u{7FF}", "\u{800}", "\u{D7FF}", "\u{E000}", "\u{FFFF}", "\u{10000}", "\u{10FFFF}"];
 
 /// Bytes that are no letter: single ones, and sequences that are cut, overlong, of half a pair or past the last letter.
 const NO_LETTERS: [&[u8]; 18] = [
@@ -135,14 +136,16 @@ const NO_LETTERS: [&[u8]; 18] = [
 ];
 
 pub fn escape_cases(source: &mut Source) -> Vec<EscapeCase> {
-    let mut cases = Vec::new();
-    cases.extend(NO_LETTERS.map(|bytes| (Limit::Of32, bytes.to_vec())));
-    cases.push((Limit::Of32, vec![0xC3, 0xA9, 0x80]));
-    cases.extend(LIMITS.map(|limit| (limit, vec![])));
+    let mut cases = vec![(Limit::Of32, vec![]), (Limit::Of64, vec![]), (Limit::Of32, vec![0xC3, 0xA9, 0x80])];
+    cases.extend(sequences().map(|sequence| (Limit::Of32, sequence.to_vec())));
     for limit in LIMITS {
         escapes_near_the_limit(source, limit, &mut cases);
     }
     cases
+}
+
+fn sequences() -> impl Iterator<Item = &'static [u8]> {
+    LETTERS.into_iter().map(str::as_bytes).chain(NO_LETTERS)
 }
 
 /// Plain bytes that leave little room or none, then a sequence that may not fit, then another plain byte.
@@ -152,12 +155,12 @@ fn escapes_near_the_limit(source: &mut Source, limit: Limit, cases: &mut Vec<Esc
         Limit::Of64 => 60..=65,
     };
     let lengths: Vec<usize> = source.scale.pick((28..=33).chain(60..=65).collect(), own.collect());
-    let every = [&LETTERS[..], &NO_LETTERS].concat();
-    let telling = vec![LETTERS[1], LETTERS[3], NO_LETTERS[0]];
+    let telling = vec!["é".as_bytes(), "😀".as_bytes(), &[0x80]];
+    let sequences = source.scale.pick(sequences().collect(), telling);
     for length in lengths {
-        for sequence in source.scale.pick(every.clone(), telling.clone()) {
+        for sequence in &sequences {
             let text = printable(&mut source.rng, length);
-            cases.push((limit, [&text, sequence, b"A"].concat()));
+            cases.push((limit, [&text, *sequence, b"A"].concat()));
         }
     }
 }

@@ -17,7 +17,9 @@ byte-requires-2 : tie.Need-byte-requires-2
 byte-requires-2 c κs = search needs
 
 returns : tie.Need-returns
-returns c = rw (c .before .byte .ensures, c .byte2 .ensures)
+returns c =
+    let configuration = c .before in
+    rw (configuration .byte .ensures, c .byte2 .ensures)
 
 pub parse-bank0-bus-unit-spec : {M : Type 1} → statement M
 parse-bank0-bus-unit-spec =

@@ -1,55 +1,74 @@
+-- `records::memory_bank_parser::parse_be_u64` meets its contract: the bytes of a field that is there.
+-- Assumes nothing.
+use mathlib.Core.Path.{_≡_, sym, ap, _∙_}
+use mathlib.Core.Bool.{Bool}
+use mathlib.Core.List.{List}
+use Prim.Native.Nat.{ℕ, _+_, _-_}
+use native.Mathlib.Omega.{arith}
+use borrow.Author.Tests.{not-true, not-false}
 use borrow.Author.Needs.{needs}
+use lib.ListN.{take, drop}
+use Rattle.bus.specs.declared.OptionU64.{OptionU64}
+use Rattle.bus.specs.Number.{number}
+use Rattle.records.specs.Places.{allFF}
+use Rattle.records.proofs.Places.{There, is-there, not-there}
 use Rattle.records.proofs.memory_bank_parser.parse_be_u64.Statement.{statement}
 use Rattle.records.proofs.memory_bank_parser.parse_be_u64.Tie as tie
-use Rattle.records.proofs.memory_bank_parser.parse_be_u64.Reads as reads
-use Rattle.records.proofs.memory_bank_parser.parse_be_u64.Lts as lts
-use Rattle.records.proofs.identity.is_mask.Reads as is-mask-reads
-use Rattle.records.proofs.identity.number_of.Reads as number-of-reads
-use Rattle.records.proofs.memory_bank_parser.holds.Reads as holds-reads
 
--- src/memory_bank_parser.rt:80:9
+there : (c : tie.Else1) → (let a = c .before .before .before .args in There (a .start-offset) (a .bytes .now) (a .start) (a .len))
+there c = is-there _ _ _ _ (sym (c .before .holds .ensures) ∙ not-false _ (c .if1 .left))
+
+-- the part is as long as the field
+long : (o n : ℕ) → n ≡ o + n - o
+long o n = omega arith
+
+masked : (c : tie.After-is-mask) → (let a = c .before .before .before .before .before .args in allFF (take (a .len) (drop (a .start - a .start-offset) (a .bytes .now))) ≡ c .is-mask .result)
+masked c =
+    let a = c .before .before .before .before .before .args in
+    let o = a .start - a .start-offset in
+    ap (λ (k : ℕ). allFF (take k (drop o (a .bytes .now)))) (long o (a .len)) ∙ sym (c .is-mask .ensures)
+
 holds-requires : tie.Need-holds-requires
 holds-requires c κs = search needs
 
--- src/memory_bank_parser.rt:81:9
 returns : tie.Need-returns
-returns c = ?
+returns c =
+    let a = c .before .before .before .args in
+    rw (not-there (a .start-offset) (a .bytes .now) (a .start) (a .len) (sym (c .before .holds .ensures) ∙ not-true _ (c .if1 .taken)))
 
--- src/memory_bank_parser.rt:83:15
 sub-rel : tie.Need-sub-rel
-sub-rel c = ?
+sub-rel c = there c .from
 
--- src/memory_bank_parser.rt:84:15
 add-end : tie.Need-add-end
-add-end c = ?
+add-end c = omega (arith, there c .within)
 
--- src/memory_bank_parser.rt:85:17
 sub-field : tie.Need-sub-field
 sub-field c = search needs
 
--- src/memory_bank_parser.rt:85:17
 part-field-start : tie.Need-part-field-start
 part-field-start c = search needs
 
--- src/memory_bank_parser.rt:85:17
 part-field-end : tie.Need-part-field-end
-part-field-end c = ?
+part-field-end c = there c .within
 
--- src/memory_bank_parser.rt:86:8
 is-mask-requires : tie.Need-is-mask-requires
 is-mask-requires c κs = search needs
 
--- src/memory_bank_parser.rt:87:9
 returns-2 : tie.Need-returns-2
-returns-2 c = ?
+returns-2 c =
+    let t = there (c .before .before .before) in
+    rw (t .is, masked (c .before) ∙ c .if2 .taken)
 
--- src/memory_bank_parser.rt:89:21
 number-of-requires : tie.Need-number-of-requires
 number-of-requires c κs = search needs
 
--- src/memory_bank_parser.rt:76:1
 returns-3 : tie.Need-returns-3
-returns-3 c = ?
+returns-3 c =
+    let t = there (c .before .before .before .before) in
+    let a = c .before .before .before .before .before .before .before .args in
+    let o = a .start - a .start-offset in
+    rw (t .is, masked (c .before .before) ∙ c .before .if2 .left)
+    (ap OptionU64.Some (c .number-of .ensures ∙ ap (λ (k : ℕ). number (take k (drop o (a .bytes .now)))) (sym (long o (a .len)))))
 
 pub parse-be-u64-spec : {M : Type 1} → statement M
 parse-be-u64-spec =

@@ -1,71 +1,82 @@
+-- `records::memory_bank_parser::parse_gear_diagnostics` meets its contract, member by member.
+-- Assumes nothing.
 use borrow.Author.Needs.{needs}
 use Rattle.records.proofs.memory_bank_parser.parse_gear_diagnostics.Statement.{statement}
 use Rattle.records.proofs.memory_bank_parser.parse_gear_diagnostics.Tie as tie
-use Rattle.records.proofs.memory_bank_parser.parse_gear_diagnostics.Reads as reads
-use Rattle.records.proofs.memory_bank_parser.parse_gear_diagnostics.Lts as lts
-use Rattle.records.proofs.memory_bank_parser.byte.Reads as byte-reads
-use Rattle.records.proofs.memory_bank_parser.parse_condition.Reads as parse-condition-reads
-use Rattle.records.proofs.memory_bank_parser.parse_reading.Reads as parse-reading-reads
 
--- src/memory_bank_parser.rt:406:23
 byte-requires : tie.Need-byte-requires
 byte-requires c κs = search needs
 
--- src/memory_bank_parser.rt:407:27
 parse-reading-requires : tie.Need-parse-reading-requires
 parse-reading-requires c κs = search needs
 
--- src/memory_bank_parser.rt:408:24
 parse-reading-requires-2 : tie.Need-parse-reading-requires-2
 parse-reading-requires-2 c κs = search needs
 
--- src/memory_bank_parser.rt:409:34
 parse-reading-requires-3 : tie.Need-parse-reading-requires-3
 parse-reading-requires-3 c κs = search needs
 
--- src/memory_bank_parser.rt:410:30
 parse-reading-requires-4 : tie.Need-parse-reading-requires-4
 parse-reading-requires-4 c κs = search needs
 
--- src/memory_bank_parser.rt:411:29
 parse-reading-requires-5 : tie.Need-parse-reading-requires-5
 parse-reading-requires-5 c κs = search needs
 
--- src/memory_bank_parser.rt:412:26
 parse-condition-requires : tie.Need-parse-condition-requires
 parse-condition-requires c κs = search needs
 
--- src/memory_bank_parser.rt:413:23
 parse-condition-requires-2 : tie.Need-parse-condition-requires-2
 parse-condition-requires-2 c κs = search needs
 
--- src/memory_bank_parser.rt:414:22
 parse-condition-requires-3 : tie.Need-parse-condition-requires-3
 parse-condition-requires-3 c κs = search needs
 
--- src/memory_bank_parser.rt:415:34
 parse-condition-requires-4 : tie.Need-parse-condition-requires-4
 parse-condition-requires-4 c κs = search needs
 
--- src/memory_bank_parser.rt:416:27
 parse-condition-requires-5 : tie.Need-parse-condition-requires-5
 parse-condition-requires-5 c κs = search needs
 
--- src/memory_bank_parser.rt:417:27
 parse-condition-requires-6 : tie.Need-parse-condition-requires-6
 parse-condition-requires-6 c κs = search needs
 
--- src/memory_bank_parser.rt:418:31
 parse-reading-requires-6 : tie.Need-parse-reading-requires-6
 parse-reading-requires-6 c κs = search needs
 
--- src/memory_bank_parser.rt:419:33
 parse-reading-requires-7 : tie.Need-parse-reading-requires-7
 parse-reading-requires-7 c κs = search needs
 
--- src/memory_bank_parser.rt:402:1
 returns : tie.Need-returns
-returns c = ?
+returns c =
+    let temperature-offset60 = c .before in
+    let thermal-shutdown = temperature-offset60 .before in
+    let thermal-derating = thermal-shutdown .before in
+    let output-power-limitation = thermal-derating .before in
+    let overvoltage = output-power-limitation .before in
+    let undervoltage = overvoltage .before in
+    let overall-failure = undervoltage .before in
+    let power-factor-centi = overall-failure .before in
+    let supply-frequency-hz = power-factor-centi .before in
+    let supply-voltage-decivolt = supply-frequency-hz .before in
+    let start-counter = supply-voltage-decivolt .before in
+    let operating-time-s = start-counter .before in
+    let bank-version = operating-time-s .before in
+    rw (
+      bank-version .byte .ensures,
+      operating-time-s .parse-reading .ensures,
+      start-counter .parse-reading2 .ensures,
+      supply-voltage-decivolt .parse-reading3 .ensures,
+      supply-frequency-hz .parse-reading4 .ensures,
+      power-factor-centi .parse-reading5 .ensures,
+      overall-failure .parse-condition .ensures,
+      undervoltage .parse-condition2 .ensures,
+      overvoltage .parse-condition3 .ensures,
+      output-power-limitation .parse-condition4 .ensures,
+      thermal-derating .parse-condition5 .ensures,
+      thermal-shutdown .parse-condition6 .ensures,
+      temperature-offset60 .parse-reading6 .ensures,
+      c .parse-reading7 .ensures,
+    )
 
 pub parse-gear-diagnostics-spec : {M : Type 1} → statement M
 parse-gear-diagnostics-spec =

@@ -1,67 +1,77 @@
+-- `records::memory_bank_parser::parse_source_diagnostics` meets its contract, member by member.
+-- Assumes nothing.
 use borrow.Author.Needs.{needs}
 use Rattle.records.proofs.memory_bank_parser.parse_source_diagnostics.Statement.{statement}
 use Rattle.records.proofs.memory_bank_parser.parse_source_diagnostics.Tie as tie
-use Rattle.records.proofs.memory_bank_parser.parse_source_diagnostics.Reads as reads
-use Rattle.records.proofs.memory_bank_parser.parse_source_diagnostics.Lts as lts
-use Rattle.records.proofs.memory_bank_parser.byte.Reads as byte-reads
-use Rattle.records.proofs.memory_bank_parser.parse_condition.Reads as parse-condition-reads
-use Rattle.records.proofs.memory_bank_parser.parse_reading.Reads as parse-reading-reads
 
--- src/memory_bank_parser.rt:444:23
 byte-requires : tie.Need-byte-requires
 byte-requires c κs = search needs
 
--- src/memory_bank_parser.rt:445:35
 parse-reading-requires : tie.Need-parse-reading-requires
 parse-reading-requires c κs = search needs
 
--- src/memory_bank_parser.rt:446:24
 parse-reading-requires-2 : tie.Need-parse-reading-requires-2
 parse-reading-requires-2 c κs = search needs
 
--- src/memory_bank_parser.rt:447:31
 parse-reading-requires-3 : tie.Need-parse-reading-requires-3
 parse-reading-requires-3 c κs = search needs
 
--- src/memory_bank_parser.rt:448:20
 parse-reading-requires-4 : tie.Need-parse-reading-requires-4
 parse-reading-requires-4 c κs = search needs
 
--- src/memory_bank_parser.rt:449:27
 parse-reading-requires-5 : tie.Need-parse-reading-requires-5
 parse-reading-requires-5 c κs = search needs
 
--- src/memory_bank_parser.rt:450:27
 parse-reading-requires-6 : tie.Need-parse-reading-requires-6
 parse-reading-requires-6 c κs = search needs
 
--- src/memory_bank_parser.rt:451:26
 parse-condition-requires : tie.Need-parse-condition-requires
 parse-condition-requires c κs = search needs
 
--- src/memory_bank_parser.rt:452:24
 parse-condition-requires-2 : tie.Need-parse-condition-requires-2
 parse-condition-requires-2 c κs = search needs
 
--- src/memory_bank_parser.rt:453:23
 parse-condition-requires-3 : tie.Need-parse-condition-requires-3
 parse-condition-requires-3 c κs = search needs
 
--- src/memory_bank_parser.rt:454:27
 parse-condition-requires-4 : tie.Need-parse-condition-requires-4
 parse-condition-requires-4 c κs = search needs
 
--- src/memory_bank_parser.rt:455:27
 parse-condition-requires-5 : tie.Need-parse-condition-requires-5
 parse-condition-requires-5 c κs = search needs
 
--- src/memory_bank_parser.rt:456:31
 parse-reading-requires-7 : tie.Need-parse-reading-requires-7
 parse-reading-requires-7 c κs = search needs
 
--- src/memory_bank_parser.rt:440:1
 returns : tie.Need-returns
-returns c = ?
+returns c =
+    let thermal-shutdown = c .before in
+    let thermal-derating = thermal-shutdown .before in
+    let open-circuit = thermal-derating .before in
+    let short-circuit = open-circuit .before in
+    let overall-failure = short-circuit .before in
+    let current-milliamp = overall-failure .before in
+    let voltage-decivolt = current-milliamp .before in
+    let on-time-s = voltage-decivolt .before in
+    let on-time-resettable-s = on-time-s .before in
+    let start-counter = on-time-resettable-s .before in
+    let start-counter-resettable = start-counter .before in
+    let bank-version = start-counter-resettable .before in
+    rw (
+      bank-version .byte .ensures,
+      start-counter-resettable .parse-reading .ensures,
+      start-counter .parse-reading2 .ensures,
+      on-time-resettable-s .parse-reading3 .ensures,
+      on-time-s .parse-reading4 .ensures,
+      voltage-decivolt .parse-reading5 .ensures,
+      current-milliamp .parse-reading6 .ensures,
+      overall-failure .parse-condition .ensures,
+      short-circuit .parse-condition2 .ensures,
+      open-circuit .parse-condition3 .ensures,
+      thermal-derating .parse-condition4 .ensures,
+      thermal-shutdown .parse-condition5 .ensures,
+      c .parse-reading7 .ensures,
+    )
 
 pub parse-source-diagnostics-spec : {M : Type 1} → statement M
 parse-source-diagnostics-spec =

@@ -1,49 +1,63 @@
+-- `records::memory_bank_parser::push` meets its contract. The invariant: the first i bytes of the piece are stored. The
+-- measure is what is left of it.
+-- Assumes nothing.
+use mathlib.Core.Path.{_≡_, refl, sym, ap, _∙_}
+use mathlib.Core.List.{List, _++_}
+use Prim.Native.Nat.{_+_, _-_, _≤_}
+use native.Mathlib.Omega.{arith}
+use borrow.Author.Tests.{le-leb, lt-leb}
+use lib.ListN.{length, getD, set, take, drop, length-set}
+use lib.Seq.{take-length}
+use denote.Ref.{now}
+use Rattle.bus.proofs.Lists.{laid-suc}
 use Rattle.records.proofs.memory_bank_parser.push.Statement.{statement}
 use Rattle.records.proofs.memory_bank_parser.push.Tie as tie
-use Rattle.records.proofs.memory_bank_parser.push.Reads as reads
-use Rattle.records.proofs.memory_bank_parser.push.Lts as lts
 
 abbrev Inv-loop : tie.InvT-loop
-Inv-loop piece out₀ i₀ out i = ?
+Inv-loop piece out₀ i₀ out i = (out ≡ take i piece ++ drop i out₀) × (i ≤ length piece) × (length out ≡ length out₀)
 
 abbrev μ-loop : tie.MeasureT-loop
-μ-loop piece out₀ i₀ out i = ?
+μ-loop piece out₀ i₀ out i = length piece - i
 
--- src/memory_bank_parser.rt:323:9
 returns : tie.Need-returns Inv-loop μ-loop
-returns c = ?
+returns c =
+    let a = c .before .args in
+    let no = lt-leb (length (now (a .piece))) (length (now (a .out))) (omega arith) in
+    (rw no, rw no)
 
--- src/memory_bank_parser.rt:326:5
 loop-holds : tie.Need-loop-holds Inv-loop μ-loop
-loop-holds c = ?
+loop-holds c = (refl, omega arith, refl)
 
--- src/memory_bank_parser.rt:327:18
 shared-slice-read-out : tie.Need-shared-slice-read-out Inv-loop μ-loop
-shared-slice-read-out c = ?
+shared-slice-read-out c = omega arith
 
--- src/memory_bank_parser.rt:327:9
 slice-write-out : tie.Need-slice-write-out Inv-loop μ-loop
-slice-write-out c = ?
+slice-write-out c = omega arith
 
--- src/memory_bank_parser.rt:328:9
 add-i : tie.Need-add-i Inv-loop μ-loop
-add-i c = ?
+add-i c = omega arith
 
--- src/memory_bank_parser.rt:326:5
 loop-less : tie.Need-loop-less Inv-loop μ-loop
-loop-less c = ?
+loop-less c = omega arith
 
--- src/memory_bank_parser.rt:326:5
 loop-again : tie.Need-loop-again Inv-loop μ-loop
-loop-again c = ?
+loop-again c =
+    let l = c .before .before in
+    let a = l .before .before .args in
+    (ap (λ (r : List _). set r (l .loop .i) (getD (now (a .piece)) (l .loop .i) 0)) (l .loop .inv .0) ∙ laid-suc (now (a .piece)) (now (a .out)) (l .loop .i) 0 (omega arith) (omega arith), omega arith, simp length-set (l .loop .inv .2))
 
--- src/memory_bank_parser.rt:318:1
 same-length : tie.Need-same-length Inv-loop μ-loop
-same-length c = ?
+same-length c = c .before .loop .inv .2
 
--- src/memory_bank_parser.rt:318:1
 returns-2 : tie.Need-returns-2 Inv-loop μ-loop
-returns-2 c = ?
+returns-2 c =
+    let l = c .before in
+    let a = l .before .before .args in
+    let p = now (a .piece) in
+    let all : l .loop .i ≡ length p = omega arith in
+    let yes = le-leb (length p) (length (now (a .out))) (omega arith) in
+    let laid : take (l .loop .i) p ++ drop (l .loop .i) (now (a .out)) ≡ p ++ drop (length p) (now (a .out)) = rw (all, take-length p) in
+    (rw yes all, rw yes (l .loop .inv .0 ∙ laid))
 
 pub push-spec : {M : Type 1} → statement M
 push-spec =

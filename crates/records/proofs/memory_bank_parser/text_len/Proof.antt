@@ -1,41 +1,49 @@
+-- `records::memory_bank_parser::text_len` meets its contract. The invariant: none of the first i bytes is 00. The measure is
+-- the number of bytes that are left.
+-- Assumes nothing.
+use mathlib.Core.Path.{_≡_, refl, sym, ap, _∙_}
+use mathlib.Core.List.{List, _++_}
+use Prim.Native.Nat.{_+_, _-_, _≤_}
+use native.Mathlib.Omega.{arith}
+use borrow.Author.Tests.{eq-eqb, ne-eqb}
+use lib.ListN.{length, take, drop}
+use Rattle.records.specs.Text.{untilZero}
+use Rattle.records.proofs.Texts.{zero-at, next-byte, no-byte}
 use Rattle.records.proofs.memory_bank_parser.text_len.Statement.{statement}
 use Rattle.records.proofs.memory_bank_parser.text_len.Tie as tie
-use Rattle.records.proofs.memory_bank_parser.text_len.Reads as reads
-use Rattle.records.proofs.memory_bank_parser.text_len.Lts as lts
 
 abbrev Inv-loop : tie.InvT-loop
-Inv-loop raw i₀ i = ?
+Inv-loop raw i₀ i = (i ≤ length raw) × (take i raw ++ untilZero (drop i raw) ≡ untilZero raw)
 
 abbrev μ-loop : tie.MeasureT-loop
-μ-loop raw i₀ i = ?
+μ-loop raw i₀ i = length raw - i
 
--- src/memory_bank_parser.rt:224:5
 loop-holds : tie.Need-loop-holds Inv-loop μ-loop
-loop-holds c = ?
+loop-holds c = (omega arith, refl)
 
--- src/memory_bank_parser.rt:225:12
 shared-slice-read-if1 : tie.Need-shared-slice-read-if1 Inv-loop μ-loop
-shared-slice-read-if1 c = ?
+shared-slice-read-if1 c = omega arith
 
--- src/memory_bank_parser.rt:226:13
 returns : tie.Need-returns Inv-loop μ-loop
-returns c = ?
+returns c =
+    let l = c .before .before .before in
+    (omega arith, zero-at (l .before .args .raw .now) (l .loop .i) (omega arith) (c .if1 .taken) (l .loop .inv .1))
 
--- src/memory_bank_parser.rt:228:9
 add-i : tie.Need-add-i Inv-loop μ-loop
-add-i c = ?
+add-i c = omega arith
 
--- src/memory_bank_parser.rt:224:5
 loop-less : tie.Need-loop-less Inv-loop μ-loop
-loop-less c = ?
+loop-less c = omega arith
 
--- src/memory_bank_parser.rt:224:5
 loop-again : tie.Need-loop-again Inv-loop μ-loop
-loop-again c = ?
+loop-again c =
+    let l = c .before .before .before in
+    (omega arith, next-byte (l .before .args .raw .now) (l .loop .i) (omega arith) (c .if1 .left) (l .loop .inv .1))
 
--- src/memory_bank_parser.rt:220:1
 returns-2 : tie.Need-returns-2 Inv-loop μ-loop
-returns-2 c = ?
+returns-2 c =
+    let l = c .before in
+    (omega arith, no-byte (l .before .args .raw .now) (l .loop .i) (omega arith) (l .loop .inv .1))
 
 pub text-len-spec : {M : Type 1} → statement M
 text-len-spec =
