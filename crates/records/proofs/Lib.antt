@@ -1,3 +1,4 @@
 pub mod Places
 pub mod Texts
+pub mod Window
 pub mod Cases

@@ -18,22 +18,21 @@ use Rattle.records.specs.Places.{numberAt}
 abbrev identity : ℕ → ℕ → ℕ → DeviceIdentity
 identity gtin number index = record { gtin = gtin; «identification_number» = number; «logical_gear_index» = index }
 
--- the three parts of an identity, where none is absent; bytes 03 to 1A hex are given
-abbrev identityIn : List ℕ → Option DeviceIdentity
-identityIn window =
-    bind (numberAt 0x03 window 0x03 6) (λ gtin.
-    bind (numberAt 0x03 window 0x0B 8) (λ number.
-    Option·map (λ index. identity gtin number index) (numberAt 0x03 window 0x1A 1)))
+-- an identity is known where none of its parts is absent
+abbrev pub identityOf : Option ℕ → Option ℕ → Option ℕ → Option DeviceIdentity
+identityOf gtin number index = bind gtin (λ g. bind number (λ n. Option·map (λ i. identity g n i) index))
 
-abbrev knownIf : Option DeviceIdentity → IdentityRead
+abbrev pub knownIf : Option DeviceIdentity → IdentityRead
 knownIf none = IdentityRead.Unprovable
 knownIf (some d) = Known d
 
 -- "bytes 03 to 1A hex not all present, unread; GTIN, number or index all FF hex, unprovable; else known"
 abbrev pub ofWindow : List ℕ → IdentityRead
-ofWindow window = cond (eqb (length window) 24) (knownIf (identityIn window)) Unread
+ofWindow window =
+    cond (eqb (length window) 24)
+    (knownIf (identityOf (numberAt 0x03 window 0x03 6) (numberAt 0x03 window 0x0B 8) (numberAt 0x03 window 0x1A 1))) Unread
 
-abbrev ofPart : Option (List ℕ) → IdentityRead
+abbrev pub ofPart : Option (List ℕ) → IdentityRead
 ofPart none = Unread
 ofPart (some window) = ofWindow window
 

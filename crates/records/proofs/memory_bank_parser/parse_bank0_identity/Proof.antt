@@ -1,74 +1,83 @@
+-- `records::memory_bank_parser::parse_bank0_identity` meets its contract, member by member.
+-- Assumes nothing.
 use borrow.Author.Needs.{needs}
 use Rattle.records.proofs.memory_bank_parser.parse_bank0_identity.Statement.{statement}
 use Rattle.records.proofs.memory_bank_parser.parse_bank0_identity.Tie as tie
-use Rattle.records.proofs.memory_bank_parser.parse_bank0_identity.Reads as reads
-use Rattle.records.proofs.memory_bank_parser.parse_bank0_identity.Lts as lts
-use Rattle.records.proofs.memory_bank_parser.byte.Reads as byte-reads
-use Rattle.records.proofs.memory_bank_parser.parse_be_u64.Reads as parse-be-u64-reads
 
--- src/memory_bank_parser.rt:173:27
 byte-requires : tie.Need-byte-requires
 byte-requires c κs = search needs
 
--- src/memory_bank_parser.rt:174:49
 cast-parse-be-u64 : tie.Need-cast-parse-be-u64
 cast-parse-be-u64 c = search needs
 
--- src/memory_bank_parser.rt:174:15
 parse-be-u64-requires : tie.Need-parse-be-u64-requires
 parse-be-u64-requires c κs = search needs
 
--- src/memory_bank_parser.rt:175:33
 byte-requires-2 : tie.Need-byte-requires-2
 byte-requires-2 c κs = search needs
 
--- src/memory_bank_parser.rt:176:33
 byte-requires-3 : tie.Need-byte-requires-3
 byte-requires-3 c κs = search needs
 
--- src/memory_bank_parser.rt:180:13
 cast-parse-be-u64-2 : tie.Need-cast-parse-be-u64-2
 cast-parse-be-u64-2 c = search needs
 
--- src/memory_bank_parser.rt:177:32
 parse-be-u64-requires-2 : tie.Need-parse-be-u64-requires-2
 parse-be-u64-requires-2 c κs = search needs
 
--- src/memory_bank_parser.rt:183:33
 byte-requires-4 : tie.Need-byte-requires-4
 byte-requires-4 c κs = search needs
 
--- src/memory_bank_parser.rt:184:33
 byte-requires-5 : tie.Need-byte-requires-5
 byte-requires-5 c κs = search needs
 
--- src/memory_bank_parser.rt:185:27
 byte-requires-6 : tie.Need-byte-requires-6
 byte-requires-6 c κs = search needs
 
--- src/memory_bank_parser.rt:186:27
 byte-requires-7 : tie.Need-byte-requires-7
 byte-requires-7 c κs = search needs
 
--- src/memory_bank_parser.rt:187:27
 byte-requires-8 : tie.Need-byte-requires-8
 byte-requires-8 c κs = search needs
 
--- src/memory_bank_parser.rt:188:39
 byte-requires-9 : tie.Need-byte-requires-9
 byte-requires-9 c κs = search needs
 
--- src/memory_bank_parser.rt:189:37
 byte-requires-10 : tie.Need-byte-requires-10
 byte-requires-10 c κs = search needs
 
--- src/memory_bank_parser.rt:190:37
 byte-requires-11 : tie.Need-byte-requires-11
 byte-requires-11 c κs = search needs
 
--- src/memory_bank_parser.rt:169:1
 returns : tie.Need-returns
-returns c = ?
+returns c =
+    let logical-control-gear-units = c .before in
+    let logical-control-device-units = logical-control-gear-units .before in
+    let dali-103-version = logical-control-device-units .before in
+    let dali-102-version = dali-103-version .before in
+    let dali-101-version = dali-102-version .before in
+    let hardware-version-minor = dali-101-version .before in
+    let hardware-version-major = hardware-version-minor .before in
+    let identification-number = hardware-version-major .before in
+    let firmware-version-minor = identification-number .before in
+    let firmware-version-major = firmware-version-minor .before in
+    let gtin = firmware-version-major .before in
+    let last-memory-bank = gtin .before in
+    rw (
+      last-memory-bank .byte .ensures,
+      gtin .parse-be-u64 .ensures,
+      firmware-version-major .byte2 .ensures,
+      firmware-version-minor .byte3 .ensures,
+      identification-number .parse-be-u642 .ensures,
+      hardware-version-major .byte4 .ensures,
+      hardware-version-minor .byte5 .ensures,
+      dali-101-version .byte6 .ensures,
+      dali-102-version .byte7 .ensures,
+      dali-103-version .byte8 .ensures,
+      logical-control-device-units .byte9 .ensures,
+      logical-control-gear-units .byte10 .ensures,
+      c .byte11 .ensures,
+    )
 
 pub parse-bank0-identity-spec : {M : Type 1} → statement M
 parse-bank0-identity-spec =

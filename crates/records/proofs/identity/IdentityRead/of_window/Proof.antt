@@ -1,63 +1,96 @@
+-- `records::identity::IdentityRead::of_window` meets its contract, by the three parts of the window.
+-- Assumes nothing.
+use mathlib.Core.Path.{_≡_, sym, ap, _∙_}
+use mathlib.Core.Logic.{⊎-elim}
+use mathlib.Core.Bool.{true, false}
+use mathlib.Core.Option.{some, bind}
+use Prim.Native.Nat.{_≤_, _<_}
+use native.Mathlib.Omega.{arith}
+use borrow.Author.Tests.{ne-eqb}
 use borrow.Author.Needs.{needs}
+use lib.ListN.{length, length-take, length-drop}
+use denote.Ref.{now}
+use Rattle.records.specs.declared.identity.IdentityRead.{IdentityRead}
+use Rattle.records.specs.Places.{allFF, unlessFF}
+use Rattle.records.specs.Identity.{identityOf, knownIf, ofWindow}
+use Rattle.records.proofs.Window.{in-window, one-byte}
 use Rattle.records.proofs.identity.IdentityRead.of_window.Statement.{statement}
 use Rattle.records.proofs.identity.IdentityRead.of_window.Tie as tie
-use Rattle.records.proofs.identity.IdentityRead.of_window.Reads as reads
-use Rattle.records.proofs.identity.IdentityRead.of_window.Lts as lts
-use Rattle.records.proofs.identity.is_mask.Reads as is-mask-reads
-use Rattle.records.proofs.identity.number_of.Reads as number-of-reads
-use Rattle.records.proofs.identity.within.Reads as within-reads
 
--- src/identity.rt:71:28
+abbrev start : tie.After-within3 → tie.Start
+start c = c .before .before .before .before .before
+
+-- what the window says is what its three parts say
+parts : (c : tie.After-within3)
+    → (let u = c .before .before in
+    ofWindow (now (start c .args .window)) ≡ knownIf (identityOf (unlessFF (some (now (u .within .result)))) (unlessFF (some (now (c .before .within2 .result)))) (unlessFF (some (now (c .within3 .result))))))
+parts c =
+    in-window (now (start c .args .window)) (omega arith)
+    (c .before .before .within .ensures) (c .before .within2 .ensures) (c .within3 .ensures)
+
+gtin-is : (c : tie.After-is-mask) → allFF (now (c .before .before .before .within .result)) ≡ c .is-mask .result
+gtin-is c = sym (c .is-mask .ensures)
+
 cast-if1 : tie.Need-cast-if1
 cast-if1 c = search needs
 
--- src/identity.rt:72:13
 returns : tie.Need-returns
-returns c = ?
+returns c = rw (ne-eqb _ 24 (c .if1 .taken))
 
--- src/identity.rt:74:13
 within-requires : tie.Need-within-requires
 within-requires c κs = search needs
 
--- src/identity.rt:75:13
 within-requires-2 : tie.Need-within-requires-2
 within-requires-2 c κs = search needs
 
--- src/identity.rt:76:13
 within-requires-3 : tie.Need-within-requires-3
 within-requires-3 c κs = search needs
 
--- src/identity.rt:77:12
 is-mask-requires : tie.Need-is-mask-requires
 is-mask-requires c κs = search needs
 
--- src/identity.rt:77:29
 is-mask-requires-2 : tie.Need-is-mask-requires-2
 is-mask-requires-2 c κs = search needs
 
--- src/identity.rt:77:48
 is-mask-requires-3 : tie.Need-is-mask-requires-3
 is-mask-requires-3 c κs = search needs
 
--- src/identity.rt:78:13
 returns-2 : tie.Need-returns-2
-returns-2 c = ?
+unfolding bind
+returns-2 c =
+    ⊎-elim
+    (λ g. rw (parts (c .before .before), gtin-is (c .before) ∙ g .taken))
+    (⊎-elim
+    (λ n. rw (parts (c .before .before), gtin-is (c .before) ∙ n .0 .left, sym (n .1 .ensures) ∙ n .2 .taken))
+    (λ i. rw (parts (c .before .before), gtin-is (c .before) ∙ i .0 .left, sym (i .1 .ensures) ∙ i .2 .left, sym (i .3 .ensures) ∙ i .4 .taken)))
+    (c .if2 .came)
 
--- src/identity.rt:81:19
 number-of-requires : tie.Need-number-of-requires
-number-of-requires c κs = ?
+number-of-requires c κs = rw (c .before .before .before .before .before .before .before .before .within .ensures, length-take) (omega arith)
 
--- src/identity.rt:82:36
 number-of-requires-2 : tie.Need-number-of-requires-2
-number-of-requires-2 c κs = ?
+number-of-requires-2 c κs = rw (c .before .before .before .before .before .before .before .before .within2 .ensures, length-take) (omega arith)
 
--- src/identity.rt:83:33
 shared-slice-read-t14 : tie.Need-shared-slice-read-t14
-shared-slice-read-t14 c = ?
+shared-slice-read-t14 c =
+    let i = c .before .before .before .before .before .before .before .before .before in
+    rw (i .within3 .ensures, length-take, length-drop) (omega arith)
 
--- src/identity.rt:68:5
 returns-3 : tie.Need-returns-3
-returns-3 c = ?
+unfolding bind
+returns-3 c =
+    let mask-3 = c .before .before .before .before in
+    let mask-2 = mask-3 .before .before in
+    let mask-1 = mask-2 .before .before in
+    let w = now (start (mask-1 .before) .args .window) in
+    let index = one-byte w 23 (omega arith) (mask-1 .before .within3 .ensures) in
+    rw (
+      parts (mask-1 .before),
+      sym (mask-1 .is-mask .ensures) ∙ mask-2 .before .if2 .left,
+      sym (mask-2 .is-mask2 .ensures) ∙ mask-3 .before .if3 .left,
+      sym (mask-3 .is-mask3 .ensures) ∙ c .before .before .before .if4 .left,
+    )
+    (rw (c .before .before .number-of .ensures, c .before .number-of2 .ensures, index))
 
 pub of-window-spec : {M : Type 1} → statement M
 of-window-spec =
