@@ -1,4 +1,5 @@
 pub mod Places
+pub mod Sequences
 pub mod Texts
 pub mod Window
 pub mod Cases

@@ -4,7 +4,7 @@ ghost use mathlib.Core.Bool.{cond};
 ghost use mathlib.Core.List.{_∷_};
 ghost use Prim.Native.Nat.{_-_, _≤_, _<_};
 ghost use lib.ListN.{length, drop, replicate};
-ghost use Rattle.records.specs.Utf8.{to, tail, follow, sequenceLen};
+ghost use Rattle.records.specs.Utf8.{to, tail, within, follow, sequenceLen};
 
 // The length of the well-formed sequence that bytes begin with, 0 where there is none. The arms are the table's rows.
 pub(crate) fn sequence_len(bytes: &[u8]) -> usize
@@ -26,6 +26,12 @@ pub(crate) fn sequence_len(bytes: &[u8]) -> usize
     }
 }
 
+fn is_within(b: u8, low: u8, high: u8) -> bool
+    ensures { λ r. ⌜ r ≡ within (to low high) b ⌝ }
+{
+    low <= b && b <= high
+}
+
 // The length, where the second byte is from low to high and each further one from 80 to BF hex, else 0.
 fn followed(bytes: &[u8], len: usize, low: u8, high: u8) -> usize
     requires { ⌜ 2 ≤ len ⌝ }
@@ -34,18 +40,12 @@ fn followed(bytes: &[u8], len: usize, low: u8, high: u8) -> usize
     if bytes.len() < len {
         return 0;
     }
-    if bytes[1] < low {
-        return 0;
-    }
-    if high < bytes[1] {
+    if !is_within(bytes[1], low, high) {
         return 0;
     }
     let mut i = 2;
     while i < len {
-        if bytes[i] < 0x80 {
-            return 0;
-        }
-        if 0xBF < bytes[i] {
+        if !is_within(bytes[i], 0x80, 0xBF) {
             return 0;
         }
         i += 1;

@@ -1,69 +1,90 @@
+-- `records::utf8::followed` meets its contract. The invariant: what is asked of all bytes is asked of those from i on. The
+-- measure is the number of bytes that are left.
+-- Assumes nothing.
+use mathlib.Core.Path.{_≡_, sym, ap, _∙_}
+use mathlib.Core.Bool.{Bool, cond, _&&_}
+use mathlib.Core.List.{List, _∷_}
+use Prim.Native.Nat.{ℕ, suc, _+_, _-_, _≤_, _<_}
+use native.Mathlib.Omega.{arith}
+use borrow.Author.Tests.{not-true, not-false}
+use borrow.Author.Needs.{needs}
+use lib.ListN.{length, getD, drop, replicate, length-drop, length-replicate}
+use Rattle.records.specs.Utf8.{Range, to, tail, follow}
+use Rattle.records.proofs.Sequences.{next, next-tail, no-more, too-few}
 use Rattle.records.proofs.utf8.followed.Statement.{statement}
 use Rattle.records.proofs.utf8.followed.Tie as tie
-use Rattle.records.proofs.utf8.followed.Reads as reads
-use Rattle.records.proofs.utf8.followed.Lts as lts
 
 abbrev Inv-loop : tie.InvT-loop
-Inv-loop bytes len low high i₀ i = ?
+Inv-loop bytes len low high i₀ i = (2 ≤ i) × (i ≤ len) × (follow (to low high ∷ replicate (len - 2) tail) (drop 1 bytes) ≡ follow (replicate (len - i) tail) (drop i bytes))
 
 abbrev μ-loop : tie.MeasureT-loop
-μ-loop bytes len low high i₀ i = ?
+μ-loop bytes len low high i₀ i = len - i
 
--- src/utf8.rt:35:9
+abbrev start : tie.After-is-within Inv-loop μ-loop → tie.Start Inv-loop μ-loop
+start c = c .before .before .before .before
+
+-- what is asked, by the second byte
+second : (c : tie.After-is-within Inv-loop μ-loop) {b : Bool} → c .is-within .result ≡ b
+    → (let a = start c .args in
+    follow (to (a .low) (a .high) ∷ replicate (a .len - 2) tail) (drop 1 (a .bytes .now)) ≡ b && follow (replicate (a .len - 2) tail) (drop 2 (a .bytes .now)))
+second c e =
+    let a = start c .args in
+    next (a .bytes .now) 1 (to (a .low) (a .high)) (replicate (a .len - 2) tail) (omega arith)
+    ∙ ap (λ (t : Bool). t && follow (replicate (a .len - 2) tail) (drop 2 (a .bytes .now))) (sym (c .is-within .ensures) ∙ e)
+
+-- and by byte i
+further : (c : tie.After-is-within2 Inv-loop μ-loop) {b : Bool} → c .is-within2 .result ≡ b
+    → (let l = c .before .before .before in
+    let a = start (l .before .before) .args in
+    follow (to (a .low) (a .high) ∷ replicate (a .len - 2) tail) (drop 1 (a .bytes .now)) ≡ b && follow (replicate (a .len - (l .loop .i + 1)) tail) (drop (l .loop .i + 1) (a .bytes .now)))
+further c e =
+    let l = c .before .before .before in
+    let a = start (l .before .before) .args in
+    l .loop .inv .2
+    ∙ next-tail (a .bytes .now) (a .len) (l .loop .i) (omega arith) (omega arith)
+    ∙ ap (λ (t : Bool). t && follow (replicate (a .len - (l .loop .i + 1)) tail) (drop (l .loop .i + 1) (a .bytes .now))) (sym (c .is-within2 .ensures) ∙ e)
+
 returns : tie.Need-returns Inv-loop μ-loop
-returns c = ?
+returns c =
+    let a = c .before .before .args in
+    let few : length (drop 1 (a .bytes .now)) < suc (length (replicate (a .len - 2) tail)) = rw (length-drop, length-replicate) (omega arith) in
+    rw (too-few (to (a .low) (a .high) ∷ replicate (a .len - 2) tail) (drop 1 (a .bytes .now)) few)
 
--- src/utf8.rt:37:8
-shared-slice-read-if2 : tie.Need-shared-slice-read-if2 Inv-loop μ-loop
-shared-slice-read-if2 c = ?
+shared-slice-read-is-within : tie.Need-shared-slice-read-is-within Inv-loop μ-loop
+shared-slice-read-is-within c = omega arith
 
--- src/utf8.rt:38:9
+is-within-requires : tie.Need-is-within-requires Inv-loop μ-loop
+is-within-requires c κs = search needs
+
 returns-2 : tie.Need-returns-2 Inv-loop μ-loop
-returns-2 c = ?
+returns-2 c = rw (second (c .before) (not-true _ (c .if2 .taken)))
 
--- src/utf8.rt:40:15
-shared-slice-read-if3 : tie.Need-shared-slice-read-if3 Inv-loop μ-loop
-shared-slice-read-if3 c = ?
-
--- src/utf8.rt:41:9
-returns-3 : tie.Need-returns-3 Inv-loop μ-loop
-returns-3 c = ?
-
--- src/utf8.rt:44:5
 loop-holds : tie.Need-loop-holds Inv-loop μ-loop
-loop-holds c = ?
+loop-holds c = (omega arith, omega arith, rw (second (c .before) (not-false _ (c .if2 .left))))
 
--- src/utf8.rt:45:12
-shared-slice-read-if4 : tie.Need-shared-slice-read-if4 Inv-loop μ-loop
-shared-slice-read-if4 c = ?
+shared-slice-read-is-within-2 : tie.Need-shared-slice-read-is-within-2 Inv-loop μ-loop
+shared-slice-read-is-within-2 c = omega arith
 
--- src/utf8.rt:46:13
-returns-4 : tie.Need-returns-4 Inv-loop μ-loop
-returns-4 c = ?
+is-within-requires-2 : tie.Need-is-within-requires-2 Inv-loop μ-loop
+is-within-requires-2 c κs = search needs
 
--- src/utf8.rt:48:19
-shared-slice-read-if5 : tie.Need-shared-slice-read-if5 Inv-loop μ-loop
-shared-slice-read-if5 c = ?
+returns-3 : tie.Need-returns-3 Inv-loop μ-loop
+returns-3 c = rw (further (c .before) (not-true _ (c .if3 .taken)))
 
--- src/utf8.rt:49:13
-returns-5 : tie.Need-returns-5 Inv-loop μ-loop
-returns-5 c = ?
-
--- src/utf8.rt:51:9
 add-i : tie.Need-add-i Inv-loop μ-loop
-add-i c = ?
+add-i c = omega arith
 
--- src/utf8.rt:44:5
 loop-less : tie.Need-loop-less Inv-loop μ-loop
-loop-less c = ?
+loop-less c = omega arith
 
--- src/utf8.rt:44:5
 loop-again : tie.Need-loop-again Inv-loop μ-loop
-loop-again c = ?
+loop-again c = (omega arith, omega arith, rw (further (c .before) (not-false _ (c .if3 .left))))
 
--- src/utf8.rt:30:1
-returns-6 : tie.Need-returns-6 Inv-loop μ-loop
-returns-6 c = ?
+returns-4 : tie.Need-returns-4 Inv-loop μ-loop
+returns-4 c =
+    let l = c .before in
+    let a = start (l .before .before) .args in
+    rw (l .loop .inv .2, no-more (a .bytes .now) (a .len) (l .loop .i) (omega arith))
 
 pub followed-spec : {M : Type 1} → statement M
 followed-spec =
@@ -72,16 +93,14 @@ followed-spec =
     Inv-loop
     μ-loop
     returns
-    shared-slice-read-if2
+    shared-slice-read-is-within
+    is-within-requires
     returns-2
-    shared-slice-read-if3
-    returns-3
     loop-holds
-    shared-slice-read-if4
-    returns-4
-    shared-slice-read-if5
-    returns-5
+    shared-slice-read-is-within-2
+    is-within-requires-2
+    returns-3
     add-i
     loop-less
     loop-again
-    returns-6)
+    returns-4)
