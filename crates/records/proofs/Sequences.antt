@@ -1,20 +1,20 @@
 -- Laws of UTF-8 sequences: bytes that follow ranges, and the row of a first byte.
 -- Assumes nothing.
-use mathlib.Core.Path.{_≡_, refl, ap, subst, _∙_}
+use mathlib.Core.Path.{_≡_, refl, sym, ap, subst, _∙_}
 use mathlib.Core.Bool.{Bool, true, false, _&&_, cond}
 use mathlib.Core.List.{List, [], _∷_}
 use mathlib.Core.Option.{Option, none, some}
-use Prim.Native.Nat.{ℕ, zero, suc, _+_, _-_, _≤_, _<_}
+use Prim.Native.Nat.{ℕ, zero, suc, _+_, _-_, _≤_, _<_, zero-le}
 use native.Mathlib.Nat.{not-suc-le-zero, le-of-suc-le-suc}
 use native.Mathlib.Numerals.{add-one}
 use native.Mathlib.Omega.{arith}
-use borrow.Author.Tests.{le-leb, lt-leb}
+use borrow.Author.Tests.{le-leb, lt-leb, leb-true, leb-false}
 use lib.Dec.{T, leb, ltb, ltb→lt, leb→le}
 use lib.ListN.{length, getD, getElem?, drop, replicate}
 use lib.Seq.{drop-cons}
 use Rattle.bus.specs.Maps.{firstWith}
-use Rattle.bus.proofs.Tests.{and-left, and-right}
-use Rattle.bus.proofs.Lists.{no-element}
+use Rattle.bus.proofs.Tests.{and-left, and-right, no-yes, by-test}
+use Rattle.bus.proofs.Lists.{no-element, first-passes}
 use Rattle.records.specs.Utf8.{Range, to, tail, Row, table3-7, within, follow, begins, rowLen, sequenceLen}
 
 -- one range more
@@ -142,3 +142,19 @@ module _ (bytes : List ℕ) (some-bytes : 0 < length bytes) where
   pub no-row-over : 0xF4 < getD bytes 0 0 → sequenceLen bytes ≡ 0
   unfolding sequenceLen table3-7
   no-row-over h = rw (drop-cons bytes 0 0 some-bytes) (ap rowLen (none-over (getD bytes 0 0) (drop 1 bytes) 0xF4 table3-7 tt h))
+
+-- ---- a sequence is a part of its bytes
+
+long : (rs : List Range) (bs : List ℕ) → follow rs bs ≡ true → length rs ≤ length bs
+long rs bs e =
+    by-test (leb (length rs) (length bs))
+    (λ t. leb-true (length rs) (length bs) t)
+    (λ t. absurd (no-yes (sym (too-few rs bs (leb-false (length rs) (length bs) t)) ∙ e)))
+
+pub fits : (bytes : List ℕ) → sequenceLen bytes ≤ length bytes
+unfolding sequenceLen
+fits bytes = by (firstWith (begins bytes) table3-7) refl
+  where
+    by : (o : Option Row) → firstWith (begins bytes) table3-7 ≡ o → rowLen o ≤ length bytes
+    by none e = zero-le
+    by (some r) e = long (r .first ∷ r .further) bytes (first-passes (begins bytes) table3-7 e)

@@ -1,15 +1,24 @@
 -- Laws of a text: where it ends, its pieces, and those that fit.
 -- Assumes nothing.
 use mathlib.Core.Path.{_≡_, refl, sym, ap, _∙_}
-use mathlib.Core.Bool.{Bool, true, false}
-use mathlib.Core.List.{List, [], _∷_, _++_, append-nil}
-use Prim.Native.Nat.{ℕ, zero, suc, _+_, _-_, _≤_, _<_}
+use mathlib.Core.Bool.{Bool, true, false, cond}
+use mathlib.Core.List.{List, [], _∷_, _++_, append-nil, append-assoc}
+use Prim.Native.Nat.{ℕ, zero, suc, _+_, _-_, _≤_, _<_, max, zero-le}
+use native.Mathlib.Nat.{not-suc-le-zero, sub-zero, le-refl}
 use native.Mathlib.Numerals.{add-one}
 use native.Mathlib.Omega.{arith}
-use borrow.Author.Tests.{eq-eqb, ne-eqb}
-use lib.ListN.{length, getD, take, drop, drop-of-length-le}
-use lib.Seq.{take-suc, drop-cons, append-snoc, take-all}
-use Rattle.records.specs.Text.{untilZero}
+use borrow.Author.Tests.{le-leb, lt-leb, leb-true, leb-false, ne-eqb, eqb-false}
+use lib.Dec.{eqb, leb}
+use lib.ListN.{length, getD, take, drop, length-take, length-drop, length-append, take-append-drop, drop-of-length-le}
+use lib.Seq.{take-suc, drop-cons, append-snoc, take-all, take-take, take-at, drop-at, drop-drop, length-take-le}
+use borrow.Rule.Slice.PartMut.{putMid}
+use Rattle.bus.proofs.Tests.{by-test}
+use Rattle.records.specs.declared.fixed_text.TextLimit.{TextLimit}
+use Rattle.records.specs.declared.fixed_text.TextLimit.the-variants.{Bytes32, Bytes64}
+use Rattle.records.specs.declared.memory_bank_parser.Pushed.{Pushed}
+use Rattle.records.specs.Utf8.{sequenceLen}
+use Rattle.records.specs.Text.{untilZero, escape, piece, piecesBehind, pieces, fitting, laidFirst, pushed, afterPush, escaped, limitOf}
+use Rattle.records.proofs.Sequences.{fits}
 
 -- the first i bytes of a text stand before its first 00
 module _ (bs : List ℕ) (i : ℕ) where
@@ -33,3 +42,195 @@ module _ (bs : List ℕ) (i : ℕ) where
   no-byte h b =
       let ends : untilZero (drop i bs) ≡ [] = rw (drop-of-length-le bs {i = i} h) in
       sym (append-nil (take i bs)) ∙ ap (λ (r : List ℕ). take i bs ++ r) (sym ends) ∙ b
+
+-- the part of a region before its first 00, as a part of the bytes around it
+pub part-before : (bytes : List ℕ) (o n r : ℕ)
+    → (r ≤ length (take (o + n - o) (drop o bytes))) × (take r (take (o + n - o) (drop o bytes)) ≡ untilZero (take (o + n - o) (drop o bytes)))
+    → take (o + r - o) (drop o bytes) ≡ untilZero (take n (drop o bytes))
+part-before bytes o n r h =
+    let k : o + n - o ≡ n = omega arith in
+    let j : o + r - o ≡ r = omega arith in
+    let bound : r ≤ length (take n (drop o bytes)) = rw k at h .0 in
+    let is : take r (take n (drop o bytes)) ≡ untilZero (take n (drop o bytes)) = rw k at h .1 in
+    let short : r ≤ n = omega (arith, length-take n (drop o bytes)) in
+    rw j (sym (take-take r n (drop o bytes) short) ∙ is)
+
+-- ---- pieces
+
+-- the piece at the start of bytes, by the length of their sequence
+module _ (bytes : List ℕ) (some-bytes : 0 < length bytes) where
+  pub piece-is : piece bytes ≡ cond (eqb (sequenceLen bytes) 0) (escape (getD bytes 0 0)) (take (sequenceLen bytes) bytes)
+  piece-is = by bytes some-bytes
+    where
+      by : (bs : List ℕ) → 0 < length bs → piece bs ≡ cond (eqb (sequenceLen bs) 0) (escape (getD bs 0 0)) (take (sequenceLen bs) bs)
+      by [] h = absurd (not-suc-le-zero h)
+      by (b ∷ bs) h = refl
+
+  pub piece-escape : sequenceLen bytes ≡ 0 → piece bytes ≡ escape (getD bytes 0 0)
+  piece-escape e = piece-is ∙ rw e
+
+  pub piece-copy : (sequenceLen bytes ≡ 0 → ⊥) → piece bytes ≡ take (sequenceLen bytes) bytes
+  piece-copy ne = piece-is ∙ rw (ne-eqb (sequenceLen bytes) 0 ne)
+
+  -- it is not empty
+  pub piece-some : 0 < length (piece bytes)
+  piece-some =
+      by-test (eqb (sequenceLen bytes) 0)
+      (λ t. rw (piece-is, t) (omega arith))
+      (λ t.
+      let n : length (take (sequenceLen bytes) bytes) ≡ sequenceLen bytes = length-take-le (sequenceLen bytes) bytes (fits bytes) in
+      rw (piece-is, t) (rw n (omega (arith, eqb-false (sequenceLen bytes) 0 t))))
+
+-- bytes that belong to the piece before are passed over
+pub behind : (skip : ℕ) (bs : List ℕ) → piecesBehind skip bs ≡ pieces (drop skip bs)
+unfolding piecesBehind
+behind zero bs = refl
+behind (suc k) [] = refl
+behind (suc k) (b ∷ bs) = behind k bs
+
+-- the first piece, and those behind its bytes
+pub pieces-next : (bytes : List ℕ) → 0 < length bytes → pieces bytes ≡ piece bytes ∷ pieces (drop (max 1 (sequenceLen bytes)) bytes)
+unfolding piecesBehind
+pieces-next [] h = absurd (not-suc-le-zero h)
+pieces-next (b ∷ bs) h =
+    let e : max 1 (sequenceLen (b ∷ bs)) ≡ suc (sequenceLen (b ∷ bs) - 1) = omega arith in
+    rw e (ap (λ (ps : List (List ℕ)). piece (b ∷ bs) ∷ ps) (behind (sequenceLen (b ∷ bs) - 1) bs))
+
+module _ (room : ℕ) (p : List ℕ) (ps : List (List ℕ)) where
+  pub fitting-in : length p ≤ room → fitting room (p ∷ ps) ≡ p ++ fitting (room - length p) ps
+  unfolding fitting
+  fitting-in h = rw (le-leb (length p) room h)
+
+  pub fitting-out : room < length p → fitting room (p ∷ ps) ≡ []
+  unfolding fitting
+  fitting-out h = rw (lt-leb (length p) room h)
+
+-- ---- a text that is laid piece by piece: the first i of its bytes have become the first len of the slice
+pub record Laid (raw out₀ out : List ℕ) (len i : ℕ) : Type 0 where
+  pub done : List ℕ
+  pub long : length done ≡ len
+  pub room : len ≤ length out₀
+  pub within : i ≤ length raw
+  pub is : out ≡ done ++ drop len out₀
+  pub rest : done ++ fitting (length out₀ - len) (pieces (drop i raw)) ≡ escaped (length out₀) raw
+
+pub begun : (raw out : List ℕ) → Laid raw out out 0 0
+begun raw out = record { done = []; long = refl; room = zero-le; within = zero-le; is = refl; rest = rw sub-zero }
+
+module _ {raw out₀ out : List ℕ} {len i : ℕ} (l : Laid raw out₀ out len i) where
+  kept : take len out ≡ l .done
+  kept = ap (λ (r : List ℕ). take len r) (l .is) ∙ take-at (l .done) (drop len out₀) len (l .long)
+
+  left : drop len out ≡ drop len out₀
+  left = ap (λ (r : List ℕ). drop len r) (l .is) ∙ drop-at (l .done) (drop len out₀) len (l .long)
+
+  room-left : length (drop len out) ≡ length out₀ - len
+  room-left = ap length left ∙ length-drop len out₀
+
+  pub same : length out ≡ length out₀
+  same = ap length (l .is) ∙ length-append (l .done) (drop len out₀) ∙ rw (l .long, length-drop len out₀) (omega (arith, l .room))
+
+  some-left : i < length raw → 0 < length (drop i raw)
+  some-left h = rw (length-drop i raw) (omega arith)
+
+  -- the next piece fits
+  pub one-more :
+      i < length raw → length (piece (drop i raw)) ≤ length (drop len out) →
+      Laid raw out₀ (take len out ++ afterPush (piece (drop i raw)) (drop len out)) (len + length (piece (drop i raw))) (i + max 1 (sequenceLen (drop i raw)))
+  one-more h k =
+      let bs = drop i raw in
+      let p = piece bs in
+      let n = length p in
+      let t = max 1 (sequenceLen bs) in
+      let L = length out₀ in
+      let fit : n ≤ L - len = omega (arith, room-left) in
+      let less : L - len - n ≡ L - (len + n) = omega arith in
+      let shown : fitting (L - len) (pieces bs) ≡ p ++ fitting (L - (len + n)) (pieces (drop (i + t) raw)) =
+          ap (fitting (L - len)) (pieces-next bs (some-left h))
+          ∙ fitting-in (L - len) p (pieces (drop t bs)) fit
+          ∙ rw (less, drop-drop t i raw)
+      in
+      record {
+        done = l .done ++ p;
+        long = length-append (l .done) p ∙ ap (λ (m : ℕ). m + n) (l .long);
+        room = omega (arith, l .room);
+        within = omega (arith, fits bs, length-drop i raw);
+        is = rw (kept, le-leb n (length (drop len out)) k, left, drop-drop n len out₀) (sym (append-assoc (l .done) p (drop (len + n) out₀)));
+        rest = append-assoc (l .done) p (fitting (L - (len + n)) (pieces (drop (i + t) raw))) ∙ ap (λ (r : List ℕ). l .done ++ r) (sym shown) ∙ l .rest;
+      }
+
+  ends : fitting (length out₀ - len) (pieces (drop i raw)) ≡ [] → l .done ≡ escaped (length out₀) raw
+  ends e = sym (append-nil (l .done)) ∙ ap (λ (r : List ℕ). l .done ++ r) (sym e) ∙ l .rest
+
+  -- the next piece does not fit
+  pub no-room : i < length raw → length (drop len out) < length (piece (drop i raw)) → l .done ≡ escaped (length out₀) raw
+  no-room h k =
+      ends
+      (ap (fitting (length out₀ - len)) (pieces-next (drop i raw) (some-left h))
+      ∙ fitting-out (length out₀ - len) (piece (drop i raw)) _ (omega (arith, room-left)))
+
+  -- there is no next piece
+  pub no-next : length raw ≤ i → l .done ≡ escaped (length out₀) raw
+  unfolding piecesBehind fitting
+  no-next h = ends (rw (drop-of-length-le raw {i = i} h))
+
+  -- then all is laid that is shown
+  pub all-laid : l .done ≡ escaped (length out₀) raw → (len ≡ length (escaped (length out₀) raw)) × (out ≡ laidFirst (escaped (length out₀) raw) out₀)
+  all-laid e =
+      let n : len ≡ length (escaped (length out₀) raw) = sym (l .long) ∙ ap length e in
+      (n, l .is ∙ rw (e, n))
+
+-- ---- the same, as the loop sees it: what is left of a slice is a part of it
+
+left-of : (xs : List ℕ) (i : ℕ) → take (length xs - i) (drop i xs) ≡ drop i xs
+left-of xs i = take-all (length xs - i) (drop i xs) (rw (length-drop i xs) (le-refl (length xs - i)))
+
+put-left : (xs ys : List ℕ) (i : ℕ) → i ≤ length xs → putMid i (length xs - i) xs ys ≡ take i xs ++ ys
+put-left xs ys i h =
+    let none-left : drop (length xs - i) (drop i xs) ≡ [] = drop-of-length-le (drop i xs) {i = length xs - i} (rw (length-drop i xs) (le-refl (length xs - i))) in
+    ap (λ (r : List ℕ). take i xs ++ r) (ap (λ (r : List ℕ). ys ++ r) none-left ∙ append-nil ys)
+
+module _ {raw out₀ out : List ℕ} {len i : ℕ} (l : Laid raw out₀ out len i) (more : i < length raw) {r : Pushed} {after : List ℕ}
+    (said : r ≡ pushed (take (length raw - i) (drop i raw)) (take (length out - len) (drop len out)))
+    (stored : after ≡ afterPush (piece (take (length raw - i) (drop i raw))) (take (length out - len) (drop len out))) where
+  told : r ≡ pushed (drop i raw) (drop len out)
+  told = rw (left-of raw i, left-of out len) at said
+
+  put : putMid len (length out - len) out after ≡ take len out ++ afterPush (piece (drop i raw)) (drop len out)
+  put =
+      put-left out after len (omega (arith, same l, l .room))
+      ∙ ap (λ (q : List ℕ). take len out ++ q) (rw (left-of raw i, left-of out len) at stored)
+
+  its-len : {b : Bool} → leb (length (piece (drop i raw))) (length (drop len out)) ≡ b → r .len ≡ cond b (length (piece (drop i raw))) 0
+  its-len e = ap (λ (q : Pushed). q .len) told ∙ rw e
+
+  pub some-taken : 0 < r .taken
+  some-taken = rw (ap (λ (q : Pushed). q .taken) told) (omega arith)
+
+  pub laid-on : (r .len ≡ 0 → ⊥) → Laid raw out₀ (putMid len (length out - len) out after) (len + r .len) (i + r .taken)
+  laid-on some-pushed =
+      by-test (leb (length (piece (drop i raw))) (length (drop len out)))
+      (λ t.
+      let taken : r .taken ≡ max 1 (sequenceLen (drop i raw)) = ap (λ (q : Pushed). q .taken) told in
+      rw (put, its-len t, taken) (one-more l more (leb-true (length (piece (drop i raw))) (length (drop len out)) t)))
+      (λ t. absurd (some-pushed (its-len t)))
+
+  pub unchanged : r .len ≡ 0 → (length (drop len out) < length (piece (drop i raw))) × (putMid len (length out - len) out after ≡ out)
+  unchanged none-pushed =
+      by-test (leb (length (piece (drop i raw))) (length (drop len out)))
+      (λ t.
+      let z : ⊥ = omega (arith, none-pushed, its-len t, piece-some (drop i raw) (some-left l more)) in
+      absurd z)
+      (λ t. (leb-false (length (piece (drop i raw))) (length (drop len out)) t, put ∙ rw t (take-append-drop len out)))
+
+  pub stopped : r .len ≡ 0 → (len ≡ length (escaped (length out₀) raw)) × (putMid len (length out - len) out after ≡ laidFirst (escaped (length out₀) raw) out₀)
+  stopped none-pushed =
+      let as-before = unchanged none-pushed in
+      let all = all-laid l (no-room l more (as-before .0)) in
+      (all .0, as-before .1 ∙ all .1)
+
+-- ---- the array of a text
+
+pub at-most-64 : (limit : TextLimit) → limitOf limit ≤ 64
+at-most-64 Bytes32 = omega arith
+at-most-64 Bytes64 = omega arith

@@ -1,78 +1,91 @@
+-- `records::memory_bank_parser::escape_into` meets its contract. The invariant: the text is laid up to byte i. The measure is
+-- the number of bytes that are left.
+-- Assumes nothing.
+use mathlib.Core.Path.{_≡_, sym, ap, _∙_}
+use Prim.Native.Nat.{_+_, _-_, _≤_, _<_}
+use native.Mathlib.Omega.{arith}
+use borrow.Author.Needs.{needs}
+use borrow.Rule.Slice.PartMut.{putMid}
+use lib.ListN.{length, length-take, length-drop}
+use Rattle.records.proofs.Texts.{Laid, begun, same, some-taken, laid-on, unchanged, stopped, no-next, all-laid}
 use Rattle.records.proofs.memory_bank_parser.escape_into.Statement.{statement}
 use Rattle.records.proofs.memory_bank_parser.escape_into.Tie as tie
-use Rattle.records.proofs.memory_bank_parser.escape_into.Reads as reads
-use Rattle.records.proofs.memory_bank_parser.escape_into.Lts as lts
-use Rattle.records.proofs.memory_bank_parser.push_next.Reads as push-next-reads
 
 abbrev Inv-loop : tie.InvT-loop
-Inv-loop raw out₀ len₀ i₀ out len i = ?
+Inv-loop raw out₀ len₀ i₀ out len i = Laid raw out₀ out len i
 
 abbrev μ-loop : tie.MeasureT-loop
-μ-loop raw out₀ len₀ i₀ out len i = ?
+μ-loop raw out₀ len₀ i₀ out len i = length raw - i
 
--- src/memory_bank_parser.rt:290:5
+-- the text laid up to the next piece
+next : (c : tie.Else1 Inv-loop μ-loop)
+    → (let p = c .before .before .before .before in
+    let l = p .before .before .before .before in
+    let a = l .before .before .before .args in
+    Laid (a .raw .now) (a .out .now) (putMid (l .loop .len) (length (l .loop .out) - l .loop .len) (l .loop .out) (p .push-next .last .1 .0)) (l .loop .len + p .push-next .result .len) (l .loop .i + p .push-next .result .taken))
+next c =
+    let p = c .before .before .before .before in
+    let l = p .before .before .before .before in
+    laid-on (l .loop .inv) (omega arith) (p .push-next .ensures .0) (p .push-next .ensures .1) (c .if1 .left)
+
 loop-holds : tie.Need-loop-holds Inv-loop μ-loop
-loop-holds c = ?
+loop-holds c = begun _ _
 
--- src/memory_bank_parser.rt:291:32
 sub-push-next : tie.Need-sub-push-next Inv-loop μ-loop
-sub-push-next c = ?
+sub-push-next c = omega arith
 
--- src/memory_bank_parser.rt:291:32
 part-push-next-start : tie.Need-part-push-next-start Inv-loop μ-loop
-part-push-next-start c = ?
+part-push-next-start c = omega arith
 
--- src/memory_bank_parser.rt:291:32
 part-push-next-end : tie.Need-part-push-next-end Inv-loop μ-loop
-part-push-next-end c = ?
+part-push-next-end c = omega arith
 
--- src/memory_bank_parser.rt:291:43
 sub-push-next-2 : tie.Need-sub-push-next-2 Inv-loop μ-loop
-sub-push-next-2 c = ?
+sub-push-next-2 c = omega (arith, same (c .before .before .loop .inv), c .before .before .loop .inv .room)
 
--- src/memory_bank_parser.rt:291:43
 part-push-next-start-2 : tie.Need-part-push-next-start-2 Inv-loop μ-loop
-part-push-next-start-2 c = ?
+part-push-next-start-2 c = omega (arith, same (c .before .before .loop .inv), c .before .before .loop .inv .room)
 
--- src/memory_bank_parser.rt:291:43
 part-push-next-end-2 : tie.Need-part-push-next-end-2 Inv-loop μ-loop
-part-push-next-end-2 c = ?
+part-push-next-end-2 c = omega arith
 
--- src/memory_bank_parser.rt:291:13
 push-next-requires : tie.Need-push-next-requires Inv-loop μ-loop
-push-next-requires c κs = ?
+push-next-requires c κs = rw (length-take, length-drop) (omega arith)
 
--- src/memory_bank_parser.rt:293:13
 same-length : tie.Need-same-length Inv-loop μ-loop
-same-length c = ?
+same-length c =
+    let p = c .before .before .before .before in
+    let l = p .before .before .before .before in
+    ap length (unchanged (l .loop .inv) (omega arith) (p .push-next .ensures .0) (p .push-next .ensures .1) (c .if1 .taken) .1) ∙ same (l .loop .inv)
 
--- src/memory_bank_parser.rt:293:13
 returns : tie.Need-returns Inv-loop μ-loop
-returns c = ?
+returns c =
+    let p = c .before .before .before .before in
+    let l = p .before .before .before .before in
+    stopped (l .loop .inv) (omega arith) (p .push-next .ensures .0) (p .push-next .ensures .1) (c .if1 .taken)
 
--- src/memory_bank_parser.rt:295:9
 add-len : tie.Need-add-len Inv-loop μ-loop
-add-len c = ?
+add-len c = omega (arith, next (c .before) .room)
 
--- src/memory_bank_parser.rt:296:9
 add-i : tie.Need-add-i Inv-loop μ-loop
-add-i c = ?
+add-i c = omega (arith, next (c .before .before) .within)
 
--- src/memory_bank_parser.rt:290:5
 loop-less : tie.Need-loop-less Inv-loop μ-loop
-loop-less c = ?
+loop-less c =
+    let p = c .before .before .before .before .before .before in
+    let l = p .before .before .before .before in
+    omega (arith, next (c .before .before) .within, some-taken (l .loop .inv) (omega arith) (p .push-next .ensures .0) (p .push-next .ensures .1))
 
--- src/memory_bank_parser.rt:290:5
 loop-again : tie.Need-loop-again Inv-loop μ-loop
-loop-again c = ?
+loop-again c = next (c .before .before)
 
--- src/memory_bank_parser.rt:284:1
 same-length-2 : tie.Need-same-length-2 Inv-loop μ-loop
-same-length-2 c = ?
+same-length-2 c = same (c .before .loop .inv)
 
--- src/memory_bank_parser.rt:284:1
 returns-2 : tie.Need-returns-2 Inv-loop μ-loop
-returns-2 c = ?
+returns-2 c =
+    let l = c .before .loop .inv in
+    all-laid l (no-next l (omega arith))
 
 pub escape-into-spec : {M : Type 1} → statement M
 escape-into-spec =

@@ -1,28 +1,31 @@
+-- `records::memory_bank_parser::escape_into_bounded` meets its contract: the text is laid into the first bytes of an array of 00.
+-- Assumes nothing.
+use mathlib.Core.Path.{_≡_, sym, ap, _∙_}
+use Prim.Native.Nat.{ℕ, _≤_}
+use native.Mathlib.Omega.{arith}
 use borrow.Author.Needs.{needs}
+use lib.ListN.{length, take, drop}
+use lib.Seq.{length-take-le}
+use Rattle.records.specs.Text.{limitOf}
+use Rattle.records.proofs.Texts.{at-most-64}
 use Rattle.records.proofs.memory_bank_parser.escape_into_bounded.Statement.{statement}
 use Rattle.records.proofs.memory_bank_parser.escape_into_bounded.Tie as tie
-use Rattle.records.proofs.memory_bank_parser.escape_into_bounded.Reads as reads
-use Rattle.records.proofs.memory_bank_parser.escape_into_bounded.Lts as lts
-use Rattle.records.proofs.fixed_text.TextLimit.bytes.Reads as bytes-reads
-use Rattle.records.proofs.memory_bank_parser.escape_into.Reads as escape-into-reads
 
--- src/memory_bank_parser.rt:272:9
+room : (c : tie.After-bytes) → c .bytes .result ≤ 64
+room c = rw (c .bytes .ensures) (at-most-64 (c .before .before .args .limit))
+
 bytes-requires : tie.Need-bytes-requires
 bytes-requires c κs = search needs
 
--- src/memory_bank_parser.rt:274:32
 array-borrow-prefix-bytes : tie.Need-array-borrow-prefix-bytes
-array-borrow-prefix-bytes c = ?
+array-borrow-prefix-bytes c = room c
 
--- src/memory_bank_parser.rt:274:32
 slice-aggregate-escape-into : tie.Need-slice-aggregate-escape-into
-slice-aggregate-escape-into c = ?
+slice-aggregate-escape-into c = sym (length-take-le _ _ (room (c .before)))
 
--- src/memory_bank_parser.rt:274:9
 escape-into-requires : tie.Need-escape-into-requires
 escape-into-requires c κs = search needs
 
--- src/memory_bank_parser.rt:269:1
 returns : tie.Need-returns
 returns c = ?
 

@@ -1,55 +1,73 @@
+-- `records::memory_bank_parser::push_next` meets its contract: what is pushed is the piece.
+-- Assumes nothing.
+use mathlib.Core.Path.{_≡_, sym, ap, _∙_}
+use Prim.Native.Nat.{ℕ, _≤_, _<_, max}
+use native.Mathlib.Omega.{arith}
 use borrow.Author.Needs.{needs}
+use lib.ListN.{length, getD, take}
+use lib.Seq.{length-take-le}
+use denote.Ref.{now}
+use Rattle.records.specs.declared.memory_bank_parser.Pushed.{Pushed}
+use Rattle.records.specs.Utf8.{sequenceLen}
+use Rattle.records.specs.Text.{piece}
+use Rattle.records.proofs.Sequences.{fits}
+use Rattle.records.proofs.Texts.{piece-escape, piece-copy}
 use Rattle.records.proofs.memory_bank_parser.push_next.Statement.{statement}
 use Rattle.records.proofs.memory_bank_parser.push_next.Tie as tie
-use Rattle.records.proofs.memory_bank_parser.push_next.Reads as reads
-use Rattle.records.proofs.memory_bank_parser.push_next.Lts as lts
-use Rattle.records.proofs.memory_bank_parser.format_hex_escape.Reads as format-hex-escape-reads
-use Rattle.records.proofs.memory_bank_parser.push.Reads as push-reads
-use Rattle.records.proofs.utf8.sequence_len.Reads as sequence-len-reads
 
--- src/memory_bank_parser.rt:313:9
+abbrev pushed-as : ℕ → ℕ → Pushed
+pushed-as taken len = record { taken = taken; len = len }
+
+-- the sequence is a part of the bytes
+within : (c : tie.After-sequence-len) → c .sequence-len .result ≤ length (now (c .before .before .before .args .rest))
+within c = rw (c .sequence-len .ensures) (fits (now (c .before .before .before .args .rest)))
+
 sequence-len-requires : tie.Need-sequence-len-requires
 sequence-len-requires c κs = search needs
 
--- src/memory_bank_parser.rt:315:40
 shared-slice-read-format-hex-escape : tie.Need-shared-slice-read-format-hex-escape
 shared-slice-read-format-hex-escape c = search needs
 
--- src/memory_bank_parser.rt:315:22
 format-hex-escape-requires : tie.Need-format-hex-escape-requires
 format-hex-escape-requires c κs = search needs
 
--- src/memory_bank_parser.rt:316:24
 slice-aggregate-push : tie.Need-slice-aggregate-push
 slice-aggregate-push c = search needs
 
--- src/memory_bank_parser.rt:316:13
 push-requires : tie.Need-push-requires
 push-requires c κs = search needs
 
--- src/memory_bank_parser.rt:317:9
 same-length : tie.Need-same-length
 same-length c = search needs
 
--- src/memory_bank_parser.rt:317:9
 returns : tie.Need-returns
-returns c = ?
+returns c =
+    let p = c .before .before in
+    let f = p .before .before .before in
+    let s = f .before .before .before in
+    let rest = now (s .before .before .before .args .rest) in
+    let none : sequenceLen rest ≡ 0 = sym (s .sequence-len .ensures) ∙ f .before .before .if1 .taken in
+    let is : piece rest ≡ f .format-hex-escape .result = piece-escape rest (omega arith) none ∙ sym (f .format-hex-escape .ensures) in
+    (rw (none, is) (ap (pushed-as 1) (p .push .ensures .0)), rw is (p .push .ensures .1))
 
--- src/memory_bank_parser.rt:319:20
 slice-aggregate-push-2 : tie.Need-slice-aggregate-push-2
-slice-aggregate-push-2 c = ?
+slice-aggregate-push-2 c = sym (length-take-le _ _ (within (c .before .before)))
 
--- src/memory_bank_parser.rt:319:9
 push-requires-2 : tie.Need-push-requires-2
 push-requires-2 c κs = search needs
 
--- src/memory_bank_parser.rt:308:1
 same-length-2 : tie.Need-same-length-2
 same-length-2 c = search needs
 
--- src/memory_bank_parser.rt:308:1
 returns-2 : tie.Need-returns-2
-returns-2 c = ?
+returns-2 c =
+    let p = c .before .before in
+    let s = p .before .before .before .before in
+    let rest = now (s .before .before .before .args .rest) in
+    let n = s .sequence-len .result in
+    let is : piece rest ≡ take n rest = piece-copy rest (omega arith) (λ z. p .before .before .before .if1 .left (s .sequence-len .ensures ∙ z)) ∙ ap (λ (k : ℕ). take k rest) (sym (s .sequence-len .ensures)) in
+    let some-taken : n ≡ max 1 (sequenceLen rest) = omega (arith, s .sequence-len .ensures, p .before .before .before .if1 .left) in
+    (rw (sym some-taken, is) (ap (pushed-as n) (p .push2 .ensures .0)), rw is (p .push2 .ensures .1))
 
 pub push-next-spec : {M : Type 1} → statement M
 push-next-spec =
