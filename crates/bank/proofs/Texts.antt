@@ -1,13 +1,15 @@
--- Laws of printable texts: the test of a text from byte i on.
+-- Laws of printable texts: the test of a text from byte i on, and its first byte.
 -- Assumes nothing.
 use mathlib.Core.Path.{_≡_}
 use mathlib.Core.Bool.{true, false, and-false}
-use mathlib.Core.List.{List}
+use mathlib.Core.List.{List, _∷_}
 use Prim.Native.Nat.{ℕ, _+_, _≤_, _<_}
 use native.Mathlib.Numerals.{add-one}
-use borrow.Author.Tests.{le-leb, lt-leb}
+use borrow.Author.Tests.{le-leb, lt-leb, leb-true}
+use lib.Dec.{leb}
 use lib.ListN.{length, getD, drop, drop-of-length-le}
 use lib.Seq.{drop-cons}
+use Rattle.bus.proofs.Tests.{by-test, no-yes}
 use Rattle.bank.specs.Fields.{printable}
 
 module _ (bytes : List ℕ) (i : ℕ) where
@@ -26,3 +28,14 @@ module _ (bytes : List ℕ) (i : ℕ) where
   pub end : length bytes ≤ i → printable (drop i bytes) ≡ true
   unfolding printable
   end h = rw (drop-of-length-le bytes {i = i} h)
+
+-- a text of printable bytes begins with one
+pub head-printable : (b : ℕ) (bs : List ℕ) → printable (b ∷ bs) ≡ true → (0x20 ≤ b) × (b ≤ 0x7E) × (printable bs ≡ true)
+unfolding printable
+head-printable b bs e =
+    by-test (leb 0x20 b)
+    (λ s.
+    by-test (leb b 0x7E)
+    (λ t. (leb-true 0x20 b s, leb-true b 0x7E t, rw (s, t) at e))
+    (λ t. absurd (no-yes (rw (s, t) at e))))
+    (λ s. absurd (no-yes (rw s at e)))

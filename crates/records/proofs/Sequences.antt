@@ -158,3 +158,8 @@ fits bytes = by (firstWith (begins bytes) table3-7) refl
     by : (o : Option Row) → firstWith (begins bytes) table3-7 ≡ o → rowLen o ≤ length bytes
     by none e = zero-le
     by (some r) e = long (r .first ∷ r .further) bytes (first-passes (begins bytes) table3-7 e)
+
+-- a byte to 7F hex is a sequence of its own
+pub one-byte : (b : ℕ) (bs : List ℕ) → b ≤ 0x7F → sequenceLen (b ∷ bs) ≡ 1
+unfolding table3-7 follow
+one-byte b bs h = row-of (b ∷ bs) (omega arith) 0 refl zero-le h

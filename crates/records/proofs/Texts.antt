@@ -10,15 +10,18 @@ use native.Mathlib.Omega.{arith}
 use borrow.Author.Tests.{le-leb, lt-leb, leb-true, leb-false, ne-eqb, eqb-false}
 use lib.Dec.{eqb, leb}
 use lib.ListN.{length, getD, take, drop, length-take, length-drop, length-append, take-append-drop, drop-of-length-le}
-use lib.Seq.{take-suc, drop-cons, append-snoc, take-all, take-take, take-at, drop-at, drop-drop, length-take-le}
+use lib.Seq.{take-suc, drop-cons, append-snoc, take-all, take-take, drop-append-le, take-at, drop-at, drop-drop, length-take-le}
 use borrow.Rule.Slice.PartMut.{putMid}
 use Rattle.bus.proofs.Tests.{by-test}
+use Rattle.bank.specs.Fields.{printable}
+use Rattle.bank.proofs.Texts.{head-printable}
 use Rattle.records.specs.declared.fixed_text.TextLimit.{TextLimit}
 use Rattle.records.specs.declared.fixed_text.TextLimit.the-variants.{Bytes32, Bytes64}
+use Rattle.records.specs.declared.fixed_text.FixedText.{FixedText}
 use Rattle.records.specs.declared.memory_bank_parser.Pushed.{Pushed}
 use Rattle.records.specs.Utf8.{sequenceLen}
-use Rattle.records.specs.Text.{untilZero, escape, piece, piecesBehind, pieces, fitting, laidFirst, pushed, afterPush, escaped, limitOf}
-use Rattle.records.proofs.Sequences.{fits}
+use Rattle.records.specs.Text.{untilZero, escape, piece, piecesBehind, pieces, fitting, laidFirst, pushed, afterPush, escaped, limitOf, zeros, shownText, WithinLimit, PrintableReadsAsItself, ZeroReadsEmpty}
+use Rattle.records.proofs.Sequences.{fits, one-byte}
 
 -- the first i bytes of a text stand before its first 00
 module _ (bs : List ℕ) (i : ℕ) where
@@ -231,6 +234,75 @@ module _ {raw out₀ out : List ℕ} {len i : ℕ} (l : Laid raw out₀ out len 
 
 -- ---- the array of a text
 
+fitting-within : (room : ℕ) (ps : List (List ℕ)) → length (fitting room ps) ≤ room
+unfolding fitting
+fitting-within room [] = zero-le
+fitting-within room (p ∷ ps) =
+    let behind = fitting-within (room - length p) ps in
+    by-test (leb (length p) room)
+    (λ t.
+    let h = leb-true (length p) room t in
+    rw (t, length-append p (fitting (room - length p) ps)) (omega arith))
+    (λ t. rw t zero-le)
+
+pub within-limit : WithinLimit
+within-limit limit bytes = fitting-within limit (pieces bytes)
+
 pub at-most-64 : (limit : TextLimit) → limitOf limit ≤ 64
 at-most-64 Bytes32 = omega arith
 at-most-64 Bytes64 = omega arith
+
+-- a list laid first into the head of another is laid first into that one
+laid-in-head : (t zs : List ℕ) (m : ℕ) → length t ≤ m → m ≤ length zs → laidFirst t (take m zs) ++ drop m zs ≡ laidFirst t zs
+laid-in-head t zs m h k =
+    append-assoc t (drop (length t) (take m zs)) (drop m zs)
+    ∙ ap (λ (r : List ℕ). t ++ r)
+    (sym (drop-append-le (length t) (take m zs) (drop m zs) (rw (length-take-le m zs k) h))
+    ∙ ap (λ (r : List ℕ). drop (length t) r) (take-append-drop m zs))
+
+-- a text laid into the first bytes of an array of 00
+module _ (limit : TextLimit) (raw : List ℕ) where
+  abbrev laid : ℕ → List ℕ → FixedText
+  laid len bytes = record { present = true; limit = limit; len = len; bytes = bytes }
+
+  pub bounded : {m len : ℕ} {after : List ℕ} → m ≡ limitOf limit
+      → len ≡ length (escaped (length (take m zeros)) raw) → after ≡ laidFirst (escaped (length (take m zeros)) raw) (take m zeros)
+      → laid len (after ++ drop m zeros) ≡ shownText limit raw
+  bounded {m} {len} {after} e n a =
+      let text = escaped (limitOf limit) raw in
+      let k : m ≤ 64 = rw e (at-most-64 limit) in
+      let room : length (take m zeros) ≡ limitOf limit = length-take-le m zeros k ∙ e in
+      let short : length text ≤ m = rw e (within-limit (limitOf limit) raw) in
+      let stored : after ≡ laidFirst text (take m zeros) = rw room at a in
+      let count : len ≡ length text = rw room at n in
+      ap (λ (j : ℕ). laid j (after ++ drop m zeros)) count
+      ∙ ap (λ (b : List ℕ). laid (length text) b) (ap (λ (r : List ℕ). r ++ drop m zeros) stored ∙ laid-in-head text zeros m short k)
+
+-- ---- the theorems on texts
+
+not-zero : {b : ℕ} → 0x20 ≤ b → b ≡ 0 → ⊥
+not-zero h z = omega arith
+
+before-zero : (text behind : List ℕ) → printable text ≡ true → untilZero (text ++ behind) ≡ text ++ untilZero behind
+unfolding untilZero printable
+before-zero [] behind e = refl
+before-zero (b ∷ bs) behind e =
+    let p = head-printable b bs e in
+    rw (ne-eqb b 0 (λ z. not-zero (p .0) z)) (ap (λ (r : List ℕ). b ∷ r) (before-zero bs behind (p .2)))
+
+shown-as-it-is : (limit : ℕ) (text : List ℕ) → printable text ≡ true → length text ≤ limit → escaped limit text ≡ text
+unfolding printable piecesBehind fitting
+shown-as-it-is limit [] e h = refl
+shown-as-it-is limit (b ∷ bs) e h =
+    let p = head-printable b bs e in
+    let room : 1 ≤ limit = omega arith in
+    rw (one-byte b bs (omega (arith, p .1)), le-leb 1 limit room) (ap (λ (r : List ℕ). b ∷ r) (shown-as-it-is (limit - 1) bs (p .2) (omega arith)))
+
+pub printable-reads-as-itself : PrintableReadsAsItself
+printable-reads-as-itself limit text behind e h z =
+    let cut : untilZero (text ++ behind) ≡ text = before-zero text behind e ∙ ap (λ (r : List ℕ). text ++ r) z ∙ append-nil text in
+    ap (escaped limit) cut ∙ shown-as-it-is limit text e h
+
+pub zero-reads-empty : ZeroReadsEmpty
+unfolding untilZero piecesBehind fitting
+zero-reads-empty limit behind = refl

@@ -70,15 +70,18 @@ abbrev pub limitOf : TextLimit → ℕ
 limitOf Bytes32 = 32
 limitOf Bytes64 = 64
 
+abbrev pub zeros : List ℕ
+zeros = replicate 64 0
+
 -- "`FixedText<N>` becomes a 64-byte array with a length and its limit"
 abbrev pub shownText : TextLimit → List ℕ → FixedText
 shownText limit bytes =
     let text = escaped (limitOf limit) bytes in
-    record { present = true; limit = limit; len = length text; bytes = text ++ replicate (64 - length text) 0 }
+    record { present = true; limit = limit; len = length text; bytes = laidFirst text zeros }
 
 -- "an absent text is a yes or no beside its array"
 abbrev pub absentText : TextLimit → FixedText
-absentText limit = record { present = false; limit = limit; len = 0; bytes = replicate 64 0 }
+absentText limit = record { present = false; limit = limit; len = 0; bytes = zeros }
 
 abbrev regionOf : ℕ → List ℕ → TextRegion → Option (List ℕ)
 regionOf start bytes t = fieldAt start bytes (t .offset) (t .len)
@@ -99,3 +102,21 @@ textBytes start bytes t = beforeZero (regionOf start bytes t)
 abbrev pub textRegion : ℕ → List ℕ → TextRegion → TextLimit → FixedText
 textRegion start bytes t limit =
     cond (textPresent start bytes t) (shownText limit (textBytes start bytes t)) (absentText limit)
+
+-- what is shown of a region
+abbrev pub shownOf : ℕ → List ℕ → List ℕ
+shownOf limit region = escaped limit (untilZero region)
+
+-- A text is never longer than its limit.
+abbrev pub WithinLimit : Type 0
+WithinLimit = (limit : ℕ) (bytes : List ℕ) → length (escaped limit bytes) ≤ limit
+
+-- A text of bytes 20 to 7E hex within the limit reads as itself, with a 00 behind it or with nothing.
+abbrev pub PrintableReadsAsItself : Type 0
+PrintableReadsAsItself =
+    (limit : ℕ) (text behind : List ℕ) →
+    printable text ≡ true → length text ≤ limit → untilZero behind ≡ [] → shownOf limit (text ++ behind) ≡ text
+
+-- A text whose first byte is 00 reads empty.
+abbrev pub ZeroReadsEmpty : Type 0
+ZeroReadsEmpty = (limit : ℕ) (behind : List ℕ) → shownOf limit (0 ∷ behind) ≡ []

@@ -7,7 +7,7 @@ use borrow.Author.Needs.{needs}
 use lib.ListN.{length, take, drop}
 use lib.Seq.{length-take-le}
 use Rattle.records.specs.Text.{limitOf}
-use Rattle.records.proofs.Texts.{at-most-64}
+use Rattle.records.proofs.Texts.{at-most-64, bounded}
 use Rattle.records.proofs.memory_bank_parser.escape_into_bounded.Statement.{statement}
 use Rattle.records.proofs.memory_bank_parser.escape_into_bounded.Tie as tie
 
@@ -27,7 +27,10 @@ escape-into-requires : tie.Need-escape-into-requires
 escape-into-requires c κs = search needs
 
 returns : tie.Need-returns
-returns c = ?
+returns c =
+    let e = c .before in
+    let b = e .before .before in
+    bounded (b .before .before .args .limit) (b .before .before .args .raw .now) (b .bytes .ensures) (e .escape-into .ensures .0) (e .escape-into .ensures .1)
 
 pub escape-into-bounded-spec : {M : Type 1} → statement M
 escape-into-bounded-spec =
