@@ -2,14 +2,17 @@
 -- Assumes nothing.
 use mathlib.Core.Path.{_≡_, refl, sym, ap, _∙_}
 use mathlib.Core.Bool.{Bool, true, false}
-use mathlib.Core.List.{List, [], _∷_, _++_}
+use mathlib.Core.List.{List, [], _∷_, _++_, append-nil}
 use mathlib.Core.Option.{none, some}
 use Prim.Native.Nat.{ℕ, zero, suc, _+_, _≤_, _<_}
 use native.Mathlib.Nat.{le-of-suc-le-suc, not-suc-le-zero, le-of-lt}
 use native.Mathlib.Numerals.{add-one}
 use native.Mathlib.Omega.{arith}
-use lib.ListN.{length, getD, getElem?, set, take, drop, drop-of-length-le}
-use lib.Seq.{take-all, take-suc, drop-cons, set-at, append-snoc, length-take-le, getD-take}
+use borrow.Author.Tests.{ltb-true, ltb-false}
+use lib.Dec.{ltb}
+use lib.ListN.{length, getD, getElem?, set, take, drop, length-take, length-drop, length-append, drop-of-length-le}
+use lib.Seq.{take-all, take-append-le, take-suc, drop-cons, set-at, set-out, append-snoc, length-take-le, getD-take}
+use Rattle.bus.specs.Value.{laidInto}
 use Rattle.bus.specs.Maps.{firstWith}
 use Rattle.bus.proofs.Tests.{by-test}
 
@@ -77,10 +80,34 @@ module _ {A : Type 0} where
         ∙ sym (append-snoc (take i s) (getD s i z) (drop (suc i) d))
         ∙ rw (← take-suc s i z h, add-one)
 
-    -- all n elements of s are laid, or all of d is taken up
-    module _ (n : ℕ) (e : length s ≡ n) where
-      pub laid-all : i ≡ n → i ≤ length d → take i s ++ drop i d ≡ take (length d) s ++ drop n d
-      laid-all h k = rw (take-all i s (omega arith), take-all (length d) s (omega arith), h)
+    -- all of s is laid, or all of d is taken up
+    pub laid-all : i ≡ length s → i ≤ length d → take i s ++ drop i d ≡ take (length d) s ++ drop (length s) d
+    laid-all h k = rw (take-all i s (omega arith), take-all (length d) s (omega arith), h)
 
-      pub laid-short : i ≡ length d → length d ≤ n → take i s ++ drop i d ≡ take (length d) s ++ drop n d
-      laid-short h k = rw (h, drop-of-length-le d {i = length d} (omega arith), drop-of-length-le d {i = n} k)
+    pub laid-short : i ≡ length d → length d ≤ length s → take i s ++ drop i d ≡ take (length d) s ++ drop (length s) d
+    laid-short h k = rw (h, drop-of-length-le d {i = length d} (omega arith), drop-of-length-le d {i = length s} k)
+
+-- a list that is not longer is laid whole
+pub laid-whole : (xs out : List ℕ) → length xs ≤ length out → laidInto xs out ≡ xs ++ drop (length xs) out
+laid-whole xs out h = rw (take-all (length out) xs h)
+
+pub length-laid : (xs out : List ℕ) → length (laidInto xs out) ≡ length out
+length-laid xs out = rw (length-append, length-take, length-drop) (omega arith)
+
+-- one element more: it is laid where there is room
+pub laid-more : (xs out : List ℕ) (x : ℕ) → set (laidInto xs out) (length xs) x ≡ laidInto (xs ++ (x ∷ [])) out
+laid-more xs out x =
+    by-test (ltb (length xs) (length out))
+    (λ t.
+    let h = ltb-true (length xs) (length out) t in
+    ap (λ (r : List ℕ). set r (length xs) x) (laid-whole xs out (omega arith) ∙ ap (λ (r : List ℕ). xs ++ r) (drop-cons out (length xs) 0 h))
+    ∙ set-at xs (getD out (length xs) 0) (drop (suc (length xs)) out) x (length xs) refl
+    ∙ sym (append-snoc xs x (drop (suc (length xs)) out))
+    ∙ rw (laid-whole (xs ++ (x ∷ [])) out (rw length-append (omega arith)), length-append, add-one))
+    (λ t.
+    let h = ltb-false (length xs) (length out) t in
+    let full : laidInto xs out ≡ take (length out) xs = rw (drop-of-length-le out {i = length xs} h) (append-nil (take (length out) xs)) in
+    let long : length out ≤ length (xs ++ (x ∷ [])) = rw length-append (omega arith) in
+    ap (λ (r : List ℕ). set r (length xs) x) full
+    ∙ set-out (take (length out) xs) (length xs) x (rw length-take (omega arith))
+    ∙ sym (rw (drop-of-length-le out {i = length (xs ++ (x ∷ []))} long, take-append-le (length out) xs (x ∷ []) h) (append-nil (take (length out) xs))))

@@ -40,4 +40,4 @@ reads-back w raw out h =
     let n : length s ≡ bytesOf w = length-lowBytes (bytesOf w) raw in
     let whole : take (length out) s ≡ s = take-all (length out) s (omega arith) in
     let long : 0 + bytesOf w ≤ length (encoded w raw out) = rw (whole, length-append, length-drop) (omega arith) in
-    rw (le-leb _ _ long, whole, take-at s (drop (bytesOf w) out) (bytesOf w) n, number-lowBytes)
+    rw (le-leb _ _ long, whole, take-at s (drop (length s) out) (bytesOf w) n, number-lowBytes)

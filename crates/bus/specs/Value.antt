@@ -57,9 +57,14 @@ bytesAt offset n bytes = cond (leb (offset + n) (length bytes)) (some (take n (d
 abbrev pub readAt : ValueWidth → ℕ → List ℕ → Option BankValue
 readAt w offset bytes = Option·map (λ bs. classified w (number bs)) (bytesAt offset (bytesOf w) bytes)
 
--- "`encode_value` (a short output takes the leading bytes)": the rest of a long one is unchanged
+-- elements in the place of an output's first ones: a short output takes the leading ones, the rest of a long one is
+-- unchanged
+abbrev pub laidInto : List ℕ → List ℕ → List ℕ
+laidInto xs out = take (length out) xs ++ drop (length xs) out
+
+-- "`encode_value` (a short output takes the leading bytes)"
 abbrev pub encoded : ValueWidth → ℕ → List ℕ → List ℕ
-encoded w raw out = take (length out) (lowBytes (bytesOf w) raw) ++ drop (bytesOf w) out
+encoded w raw out = laidInto (lowBytes (bytesOf w) raw) out
 
 -- No mask is shown as a number: a value is the raw number itself, and neither mask.
 pub record NoMask (w : ValueWidth) (raw v : ℕ) : Type 0 where

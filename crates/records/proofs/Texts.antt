@@ -12,7 +12,9 @@ use lib.Dec.{eqb, leb}
 use lib.ListN.{length, getD, take, drop, length-take, length-drop, length-append, take-append-drop, drop-of-length-le}
 use lib.Seq.{take-suc, drop-cons, append-snoc, take-all, take-take, drop-append-le, take-at, drop-at, drop-drop, length-take-le}
 use borrow.Rule.Slice.PartMut.{putMid}
+use Rattle.bus.specs.Value.{laidInto}
 use Rattle.bus.proofs.Tests.{by-test}
+use Rattle.bus.proofs.Lists.{laid-whole}
 use Rattle.bank.specs.Fields.{printable}
 use Rattle.bank.proofs.Texts.{head-printable}
 use Rattle.records.specs.declared.fixed_text.TextLimit.{TextLimit}
@@ -20,7 +22,7 @@ use Rattle.records.specs.declared.fixed_text.TextLimit.the-variants.{Byt
 use Rattle.records.specs.declared.fixed_text.FixedText.{FixedText}
 use Rattle.records.specs.declared.memory_bank_parser.Pushed.{Pushed}
 use Rattle.records.specs.Utf8.{sequenceLen}
-use Rattle.records.specs.Text.{untilZero, escape, piece, piecesBehind, pieces, fitting, laidFirst, pushed, afterPush, escaped, limitOf, zeros, shownText, WithinLimit, PrintableReadsAsItself, ZeroReadsEmpty}
+use Rattle.records.specs.Text.{untilZero, escape, piece, piecesBehind, pieces, fitting, pushed, afterPush, escaped, limitOf, zeros, shownText, WithinLimit, PrintableReadsAsItself, ZeroReadsEmpty}
 use Rattle.records.proofs.Sequences.{fits, one-byte}
 
 -- the first i bytes of a text stand before its first 00
@@ -158,7 +160,7 @@ module _ {raw out₀ out : List ℕ} {len i : ℕ} (l : Laid raw out₀ out len 
         long = length-append (l .done) p ∙ ap (λ (m : ℕ). m + n) (l .long);
         room = omega (arith, l .room);
         within = omega (arith, fits bs, length-drop i raw);
-        is = rw (kept, le-leb n (length (drop len out)) k, left, drop-drop n len out₀) (sym (append-assoc (l .done) p (drop (len + n) out₀)));
+        is = rw (kept, le-leb n (length (drop len out)) k, laid-whole p (drop len out) k, left, drop-drop n len out₀) (sym (append-assoc (l .done) p (drop (len + n) out₀)));
         rest = append-assoc (l .done) p (fitting (L - (len + n)) (pieces (drop (i + t) raw))) ∙ ap (λ (r : List ℕ). l .done ++ r) (sym shown) ∙ l .rest;
       }
 
@@ -178,10 +180,12 @@ module _ {raw out₀ out : List ℕ} {len i : ℕ} (l : Laid raw out₀ out len 
   no-next h = ends (rw (drop-of-length-le raw {i = i} h))
 
   -- then all is laid that is shown
-  pub all-laid : l .done ≡ escaped (length out₀) raw → (len ≡ length (escaped (length out₀) raw)) × (out ≡ laidFirst (escaped (length out₀) raw) out₀)
+  pub all-laid : l .done ≡ escaped (length out₀) raw → (len ≡ length (escaped (length out₀) raw)) × (out ≡ laidInto (escaped (length out₀) raw) out₀)
   all-laid e =
-      let n : len ≡ length (escaped (length out₀) raw) = sym (l .long) ∙ ap length e in
-      (n, l .is ∙ rw (e, n))
+      let text = escaped (length out₀) raw in
+      let n : len ≡ length text = sym (l .long) ∙ ap length e in
+      let fit : length text ≤ length out₀ = rw (sym n) (l .room) in
+      (n, l .is ∙ rw (e, n) (sym (laid-whole text out₀ fit)))
 
 -- ---- the same, as the loop sees it: what is left of a slice is a part of it
 
@@ -226,7 +230,7 @@ module _ {raw out₀ out : List ℕ} {len i : ℕ} (l : Laid raw out₀ out len 
       absurd z)
       (λ t. (leb-false (length (piece (drop i raw))) (length (drop len out)) t, put ∙ rw t (take-append-drop len out)))
 
-  pub stopped : r .len ≡ 0 → (len ≡ length (escaped (length out₀) raw)) × (putMid len (length out - len) out after ≡ laidFirst (escaped (length out₀) raw) out₀)
+  pub stopped : r .len ≡ 0 → (len ≡ length (escaped (length out₀) raw)) × (putMid len (length out - len) out after ≡ laidInto (escaped (length out₀) raw) out₀)
   stopped none-pushed =
       let as-before = unchanged none-pushed in
       let all = all-laid l (no-room l more (as-before .0)) in
@@ -252,13 +256,17 @@ pub at-most-64 : (limit : TextLimit) → limitOf limit ≤ 64
 at-most-64 Bytes32 = omega arith
 at-most-64 Bytes64 = omega arith
 
--- a list laid first into the head of another is laid first into that one
-laid-in-head : (t zs : List ℕ) (m : ℕ) → length t ≤ m → m ≤ length zs → laidFirst t (take m zs) ++ drop m zs ≡ laidFirst t zs
+-- a list laid into the head of another is laid into that one
+laid-in-head : (t zs : List ℕ) (m : ℕ) → length t ≤ m → m ≤ length zs → laidInto t (take m zs) ++ drop m zs ≡ laidInto t zs
 laid-in-head t zs m h k =
-    append-assoc t (drop (length t) (take m zs)) (drop m zs)
+    let head : length (take m zs) ≡ m = length-take-le m zs k in
+    let fit : length t ≤ length (take m zs) = rw head h in
+    ap (λ (r : List ℕ). r ++ drop m zs) (laid-whole t (take m zs) fit)
+    ∙ append-assoc t (drop (length t) (take m zs)) (drop m zs)
     ∙ ap (λ (r : List ℕ). t ++ r)
-    (sym (drop-append-le (length t) (take m zs) (drop m zs) (rw (length-take-le m zs k) h))
+    (sym (drop-append-le (length t) (take m zs) (drop m zs) fit)
     ∙ ap (λ (r : List ℕ). drop (length t) r) (take-append-drop m zs))
+    ∙ sym (laid-whole t zs (omega arith))
 
 -- a text laid into the first bytes of an array of 00
 module _ (limit : TextLimit) (raw : List ℕ) where
@@ -266,15 +274,15 @@ module _ (limit : TextLimit) (raw : List ℕ) where
   laid len bytes = record { present = true; limit = limit; len = len; bytes = bytes }
 
   pub bounded : {m len : ℕ} {after : List ℕ} → m ≡ limitOf limit
-      → len ≡ length (escaped (length (take m zeros)) raw) → after ≡ laidFirst (escaped (length (take m zeros)) raw) (take m zeros)
+      → len ≡ length (escaped (length (take m zeros)) raw) → after ≡ laidInto (escaped (length (take m zeros)) raw) (take m zeros)
       → laid len (after ++ drop m zeros) ≡ shownText limit raw
   bounded {m} {len} {after} e n a =
       let text = escaped (limitOf limit) raw in
       let k : m ≤ 64 = rw e (at-most-64 limit) in
       let room : length (take m zeros) ≡ limitOf limit = length-take-le m zeros k ∙ e in
       let short : length text ≤ m = rw e (within-limit (limitOf limit) raw) in
-      let stored : after ≡ laidFirst text (take m zeros) = rw room at a in
-      let count : len ≡ length text = rw room at n in
+      let stored : after ≡ laidInto text (take m zeros) = a ∙ ap (λ (j : ℕ). laidInto (escaped j raw) (take m zeros)) room in
+      let count : len ≡ length text = n ∙ ap (λ (j : ℕ). length (escaped j raw)) room in
       ap (λ (j : ℕ). laid j (after ++ drop m zeros)) count
       ∙ ap (λ (b : List ℕ). laid (length text) b) (ap (λ (r : List ℕ). r ++ drop m zeros) stored ∙ laid-in-head text zeros m short k)
 

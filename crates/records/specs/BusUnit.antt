@@ -6,7 +6,6 @@ use mathlib.Core.List.{List, [], _∷_, _++_}
 use mathlib.Core.Option.{Option, none, some}
 use Prim.Native.Nat.{ℕ, _+_, _/_, _%_, _^_}
 use lib.Dec.{eqb, leb}
-use lib.ListN.{length, take, drop}
 use Rattle.bus.specs.Maps.{firstWith}
 use Rattle.records.specs.declared.bus_unit.EmergencyGearType.{EmergencyGearType}
 use Rattle.records.specs.declared.bus_unit.EmergencyGearType.the-variants.{A, B, C, D}
@@ -44,7 +43,7 @@ rawOf (ManufacturerSpecific n) = n
 unfoldable pub emergency : ℕ → Option EmergencyGearType
 emergency n = firstWith (λ t. eqb n (gearByte t)) (A ∷ B ∷ C ∷ D ∷ [])
 
-abbrev configuration : ℕ → Option EmergencyGearType → BusUnitConfiguration
+abbrev pub configuration : ℕ → Option EmergencyGearType → BusUnitConfiguration
 configuration n (some t) = EmergencyType t
 configuration n none = cond (leb n 8) (Defined n) (cond (leb n 191) (Reserved n) (ManufacturerSpecific n))
 
@@ -65,10 +64,6 @@ partOf raw bit = cond (eqb (raw / 2 ^ bit % 2) 1) ((150 + bit) ∷ []) []
 abbrev pub partsOf : ℕ → List ℕ
 partsOf raw =
     cond (inRange raw) (partOf raw 0 ++ partOf raw 1 ++ partOf raw 2 ++ partOf raw 3 ++ partOf raw 4) []
-
--- the parts from the start of a slice on, as many as it holds
-abbrev pub partsLaid : ℕ → List ℕ → List ℕ
-partsLaid raw out = take (length out) (partsOf raw) ++ drop (length (partsOf raw)) out
 
 -- A configuration keeps its byte.
 abbrev pub EveryByteKept : Type 0

@@ -8,6 +8,7 @@ use Prim.Native.Nat.{ℕ, zero, suc, _+_, _-_, _/_, _%_, _≤_, max}
 use lib.Dec.{eqb, leb, ltb}
 use lib.ListN.{length, take, drop, replicate}
 use Rattle.bus.specs.declared.part251.TextRegion.{TextRegion}
+use Rattle.bus.specs.Value.{laidInto}
 use Rattle.bank.specs.Fields.{printable}
 use Rattle.records.specs.declared.fixed_text.TextLimit.{TextLimit}
 use Rattle.records.specs.declared.fixed_text.TextLimit.the-variants.{Bytes32, Bytes64}
@@ -43,10 +44,6 @@ piecesBehind (suc skip) (b ∷ bs) = piecesBehind skip bs
 abbrev pub pieces : List ℕ → List (List ℕ)
 pieces bytes = piecesBehind 0 bytes
 
--- a list in the place of another's first elements
-abbrev pub laidFirst : List ℕ → List ℕ → List ℕ
-laidFirst p out = p ++ drop (length p) out
-
 -- "copying stops at the first that doesn't fit .. and a part never enters"
 unfoldable pub fitting : ℕ → List (List ℕ) → List ℕ
 fitting room [] = []
@@ -59,7 +56,7 @@ pushed bytes out =
 
 -- what a piece leaves of a slice: all of it enters, or nothing
 abbrev pub afterPush : List ℕ → List ℕ → List ℕ
-afterPush p out = cond (leb (length p) (length out)) (laidFirst p out) out
+afterPush p out = cond (leb (length p) (length out)) (laidInto p out) out
 
 -- what is shown of a text within a limit
 abbrev pub escaped : ℕ → List ℕ → List ℕ
@@ -77,7 +74,7 @@ zeros = replicate 64 0
 abbrev pub shownText : TextLimit → List ℕ → FixedText
 shownText limit bytes =
     let text = escaped (limitOf limit) bytes in
-    record { present = true; limit = limit; len = length text; bytes = laidFirst text zeros }
+    record { present = true; limit = limit; len = length text; bytes = laidInto text zeros }
 
 -- "an absent text is a yes or no beside its array"
 abbrev pub absentText : TextLimit → FixedText

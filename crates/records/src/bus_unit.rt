@@ -3,7 +3,8 @@ use bus::OptionU8;
 ghost use mathlib.Core.Path.{_≡_};
 ghost use lib.ListN.{length, set};
 ghost use Rattle.bus.specs.Options.{optionU8};
-ghost use Rattle.records.specs.BusUnit.{letterOf, emergencyLetter, fromByte, rawOf, inRange, partsOf, partsLaid};
+ghost use Rattle.bus.specs.Value.{laidInto};
+ghost use Rattle.records.specs.BusUnit.{letterOf, emergencyLetter, fromByte, rawOf, inRange, partsOf};
 
 pub const BUS_UNIT_CONFIGURATION_OFFSET: u8 = 0x1B;
 
@@ -110,7 +111,7 @@ impl ImplementedParts {
     // Stores the parts from the start of out on, as many as it holds, and answers how many there are.
     pub fn parts(self, out: &mut [u16]) -> usize
         ensures count { λ r. ⌜ r ≡ length (partsOf (self .0)) ⌝ }
-        ensures stored { λ _. ⌜ now (out .exit) ≡ partsLaid (self .0) (now (out .entry)) ⌝ }
+        ensures stored { λ _. ⌜ now (out .exit) ≡ laidInto (partsOf (self .0)) (now (out .entry)) ⌝ }
     {
         if !self.in_range() {
             return 0;

@@ -29,11 +29,11 @@ ghost use Prim.Native.Nat.{_+_, _-_, _≤_, _<_};
 ghost use lib.ListN.{length, take, drop};
 ghost use lib.Dec.{leb};
 ghost use Rattle.bus.specs.Options.{optionU8, optionU64};
-ghost use Rattle.bus.specs.Value.{notImplemented};
+ghost use Rattle.bus.specs.Value.{notImplemented, laidInto};
 ghost use Rattle.records.specs.Options.{optionI8, optionBankReading};
 ghost use Rattle.records.specs.Places.{fieldAt, isThere, byteAt, numberAt, readingOf, readingAt, isScale, scaleOf, scaleAt};
 ghost use Rattle.records.specs.Records.{bank0Identity, bank1Profile, bank0BusUnit, energyBank, condition, gearDiagnostics, sourceDiagnostics, luminaireMaintenance};
-ghost use Rattle.records.specs.Text.{untilZero, textBytes, textPresent, hexDigit, escape, piece, escaped, laidFirst, pushed, afterPush, shownText, textRegion};
+ghost use Rattle.records.specs.Text.{untilZero, textBytes, textPresent, hexDigit, escape, piece, escaped, pushed, afterPush, shownText, textRegion};
 
 pub struct ParsedMemoryIdentity {
     pub last_memory_bank: OptionU8,
@@ -283,7 +283,7 @@ pub fn escape_into_bounded(raw: &[u8], limit: TextLimit) -> FixedText
 // Stores what a text becomes, as far as it fits, and answers how many bytes that are.
 fn escape_into(raw: &[u8], out: &mut [u8]) -> usize
     ensures count { λ r. ⌜ r ≡ length (escaped (length (now (out .entry))) (now (raw .entry))) ⌝ }
-    ensures stored { λ _. ⌜ now (out .exit) ≡ laidFirst (escaped (length (now (out .entry))) (now (raw .entry))) (now (out .entry)) ⌝ }
+    ensures stored { λ _. ⌜ now (out .exit) ≡ laidInto (escaped (length (now (out .entry))) (now (raw .entry))) (now (out .entry)) ⌝ }
 {
     let mut len = 0;
     let mut i = 0;

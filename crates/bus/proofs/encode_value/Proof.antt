@@ -8,7 +8,7 @@ use native.Mathlib.Omega.{arith}
 use borrow.Author.Needs.{needs}
 use lib.ListN.{length, set, take, drop, length-set}
 use Rattle.bus.specs.Number.{lowBytes}
-use Rattle.bus.specs.Value.{encoded}
+use Rattle.bus.specs.Value.{laidInto, encoded}
 use Rattle.bus.proofs.Width.{sized}
 use Rattle.bus.proofs.Number.{length-lowBytes, lowBytes-at}
 use Rattle.bus.proofs.Lists.{laid-suc, laid-all, laid-short}
@@ -26,10 +26,14 @@ abbrev Low : tie.At-loop Inv-loop μ-loop → List ℕ
 Low l = lowBytes (l .before .bytes .result) (l .before .before .before .args .raw)
 
 -- the width's own number of bytes for the one in the local
-of-width : (l : tie.At-loop Inv-loop μ-loop) → take (length (l .before .before .before .args .out .now)) (Low l) ++ drop (l .before .bytes .result) (l .before .before .before .args .out .now) ≡ encoded (l .before .before .before .args .width) (l .before .before .before .args .raw) (l .before .before .before .args .out .now)
+of-width : (l : tie.At-loop Inv-loop μ-loop) → laidInto (Low l) (l .before .before .before .args .out .now) ≡ encoded (l .before .before .before .args .width) (l .before .before .before .args .raw) (l .before .before .before .args .out .now)
 of-width l =
     let a = l .before .before .before .args in
-    ap (λ (k : ℕ). take (length (a .out .now)) (lowBytes k (a .raw)) ++ drop k (a .out .now)) (l .before .bytes .ensures)
+    ap (λ (k : ℕ). laidInto (lowBytes k (a .raw)) (a .out .now)) (l .before .bytes .ensures)
+
+-- as many bytes as the local says
+low-long : (l : tie.At-loop Inv-loop μ-loop) → length (Low l) ≡ l .before .bytes .result
+low-long l = length-lowBytes (l .before .bytes .result) (l .before .before .before .args .raw)
 
 bytes-requires : tie.Need-bytes-requires Inv-loop μ-loop
 bytes-requires c κs = search needs
@@ -45,9 +49,9 @@ returns c =
     let l = c .before .before in
     let a = l .before .before .before .args in
     let i-all : l .loop .i ≡ length (a .out .now) = omega arith in
-    let short : length (a .out .now) ≤ l .before .bytes .result = omega arith in
+    let short : length (a .out .now) ≤ length (Low l) = omega (arith, low-long l) in
     l .loop .inv .1 .1 .1
-    ∙ laid-short (Low l) (a .out .now) (l .loop .i) (l .before .bytes .result) (length-lowBytes _ _) i-all short
+    ∙ laid-short (Low l) (a .out .now) (l .loop .i) i-all short
     ∙ of-width l
 
 sub-shift : tie.Need-sub-shift Inv-loop μ-loop
@@ -101,9 +105,9 @@ returns-2 : tie.Need-returns-2 Inv-loop μ-loop
 returns-2 c =
     let l = c .before in
     let a = l .before .before .before .args in
-    let i-all : l .loop .i ≡ l .before .bytes .result = omega arith in
+    let i-all : l .loop .i ≡ length (Low l) = omega (arith, low-long l) in
     l .loop .inv .1 .1 .1
-    ∙ laid-all (Low l) (a .out .now) (l .loop .i) (l .before .bytes .result) (length-lowBytes _ _) i-all (omega arith)
+    ∙ laid-all (Low l) (a .out .now) (l .loop .i) i-all (omega arith)
     ∙ of-width l
 
 pub encode-value-spec : {M : Type 1} → statement M

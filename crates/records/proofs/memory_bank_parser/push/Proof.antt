@@ -7,9 +7,8 @@ use Prim.Native.Nat.{_+_, _-_, _≤_}
 use native.Mathlib.Omega.{arith}
 use borrow.Author.Tests.{le-leb, lt-leb}
 use lib.ListN.{length, getD, set, take, drop, length-set}
-use lib.Seq.{take-length}
 use denote.Ref.{now}
-use Rattle.bus.proofs.Lists.{laid-suc}
+use Rattle.bus.proofs.Lists.{laid-suc, laid-all}
 use Rattle.records.proofs.memory_bank_parser.push.Statement.{statement}
 use Rattle.records.proofs.memory_bank_parser.push.Tie as tie
 
@@ -56,8 +55,7 @@ returns-2 c =
     let p = now (a .piece) in
     let all : l .loop .i ≡ length p = omega arith in
     let yes = le-leb (length p) (length (now (a .out))) (omega arith) in
-    let laid : take (l .loop .i) p ++ drop (l .loop .i) (now (a .out)) ≡ p ++ drop (length p) (now (a .out)) = rw (all, take-length p) in
-    (rw yes all, rw yes (l .loop .inv .0 ∙ laid))
+    (rw yes all, rw yes (l .loop .inv .0 ∙ laid-all p (now (a .out)) (l .loop .i) all (omega arith)))
 
 pub push-spec : {M : Type 1} → statement M
 push-spec =

@@ -1,67 +1,87 @@
+-- `records::bus_unit::ImplementedParts::parts` meets its contract. The invariant: the parts of the bits below one are stored.
+-- The measure is the number of bits that are left.
+-- Assumes nothing.
+use mathlib.Core.Path.{_≡_, refl, sym, ap, _∙_}
+use mathlib.Core.Logic.{⊎-elim}
+use mathlib.Core.List.{List}
+use Prim.Native.Nat.{ℕ, _+_, _-_, _≤_, _<_}
+use native.Mathlib.Omega.{arith}
+use borrow.Author.Needs.{needs}
+use borrow.Author.Tests.{not-true, not-false}
+use lib.ListN.{length}
+use Rattle.bus.specs.Value.{laidInto}
+use Rattle.bus.proofs.Lists.{length-laid}
+use Rattle.records.specs.BusUnit.{inRange, partsOf}
+use Rattle.records.proofs.Parts.{below, Stored, set-bit, clear-bit, no-part, nothing-stored, all-bits}
 use Rattle.records.proofs.bus_unit.ImplementedParts.parts.Statement.{statement}
 use Rattle.records.proofs.bus_unit.ImplementedParts.parts.Tie as tie
-use Rattle.records.proofs.bus_unit.ImplementedParts.parts.Reads as reads
-use Rattle.records.proofs.bus_unit.ImplementedParts.parts.Lts as lts
-use Rattle.records.proofs.bus_unit.ImplementedParts.in_range.Reads as in-range-reads
-use Rattle.records.proofs.bus_unit.store.Reads as store-reads
 
 abbrev Inv-loop : tie.InvT-loop
-Inv-loop self out₀ count₀ bit₀ out count bit = ?
+Inv-loop self out₀ count₀ bit₀ out count bit = (bit ≤ 5) × Stored (self .0) out₀ out count bit
 
 abbrev μ-loop : tie.MeasureT-loop
-μ-loop self out₀ count₀ bit₀ out count bit = ?
+μ-loop self out₀ count₀ bit₀ out count bit = 5 - bit
 
--- src/bus_unit.rt:115:13
 in-range-requires : tie.Need-in-range-requires Inv-loop μ-loop
-in-range-requires c κs = ?
+in-range-requires c κs = search needs
 
--- src/bus_unit.rt:116:13
 returns : tie.Need-returns Inv-loop μ-loop
-returns c = ?
+returns c =
+    let a = c .before .before .before .args in
+    let none = no-part (a .self .0) (sym (c .before .in-range .ensures) ∙ not-true _ (c .if1 .taken)) in
+    (ap length (sym none), nothing-stored (a .self .0) (a .out .now) .laid ∙ ap (λ (ps : List ℕ). laidInto ps (a .out .now)) (sym none))
 
--- src/bus_unit.rt:120:9
 loop-holds : tie.Need-loop-holds Inv-loop μ-loop
-loop-holds c = ?
+loop-holds c = (omega arith, nothing-stored _ _)
 
--- src/bus_unit.rt:121:17
 shr-if2 : tie.Need-shr-if2 Inv-loop μ-loop
-shr-if2 c = ?
+shr-if2 c = omega arith
 
--- src/bus_unit.rt:122:60
 cast-store : tie.Need-cast-store Inv-loop μ-loop
-cast-store c = ?
+cast-store c = omega arith
 
--- src/bus_unit.rt:122:35
 add-store : tie.Need-add-store Inv-loop μ-loop
-add-store c = ?
+add-store c = omega arith
 
--- src/bus_unit.rt:122:17
 store-requires : tie.Need-store-requires Inv-loop μ-loop
-store-requires c κs = ?
+store-requires c κs = search needs
 
--- src/bus_unit.rt:123:17
 add-count : tie.Need-add-count Inv-loop μ-loop
-add-count c = ?
+add-count c =
+    let l = c .before .before .before .before .before .before .before in
+    omega (arith, l .loop .inv .1 .few)
 
--- src/bus_unit.rt:125:13
 add-bit : tie.Need-add-bit Inv-loop μ-loop
-add-bit c = ?
+add-bit c = omega arith
 
--- src/bus_unit.rt:120:9
 loop-less : tie.Need-loop-less Inv-loop μ-loop
-loop-less c = ?
+loop-less c = omega arith
 
--- src/bus_unit.rt:120:9
 loop-again : tie.Need-loop-again Inv-loop μ-loop
-loop-again c = ?
+loop-again c =
+    let l = c .before .before .before in
+    (
+      omega arith,
+      ⊎-elim
+          (λ t. set-bit (l .loop .inv .1) (t .0 .taken) (t .5 ∙ t .2 .ensures) (t .6))
+          (λ t. clear-bit (l .loop .inv .1) (t .0 .left) (t .1) (t .2))
+          (c .if2 .came),
+    )
 
--- src/bus_unit.rt:111:5
 same-length : tie.Need-same-length Inv-loop μ-loop
-same-length c = ?
+same-length c =
+    let l = c .before in
+    let a = l .before .before .before .before .args in
+    ap length (l .loop .inv .1 .laid) ∙ length-laid (below (a .self .0) (l .loop .bit)) (a .out .now)
 
--- src/bus_unit.rt:111:5
 returns-2 : tie.Need-returns-2 Inv-loop μ-loop
-returns-2 c = ?
+returns-2 c =
+    let l = c .before in
+    let a = l .before .before .before .before .args in
+    let s = l .loop .inv .1 in
+    let five : l .loop .bit ≡ 5 = omega arith in
+    let all : below (a .self .0) (l .loop .bit) ≡ partsOf (a .self .0) = rw five (all-bits (a .self .0) (sym (l .before .before .in-range .ensures) ∙ not-false _ (l .before .if1 .left))) in
+    (s .counted ∙ ap length all, s .laid ∙ ap (λ (ps : List ℕ). laidInto ps (a .out .now)) all)
 
 pub parts-spec : {M : Type 1} → statement M
 parts-spec =
