@@ -2,20 +2,23 @@
 -- Assumes nothing.
 use mathlib.Core.Path.{_≡_, refl, sym, ap, _∙_}
 use mathlib.Core.Bool.{Bool, true, false, cond}
-use mathlib.Core.List.{List}
+use mathlib.Core.List.{List, [], _∷_}
 use mathlib.Core.Option.{none, some, Option·map}
-use Prim.Native.Nat.{ℕ, _+_, _-_, _≤_, _<_}
+use Prim.Native.Nat.{ℕ, _+_, _-_, _≤_, _<_, zero, suc, min, zero-le}
 use native.Mathlib.Numerals.{add-one}
+use native.Mathlib.Nat.{sub-zero}
+use native.Mathlib.Omega.{arith}
 use borrow.Author.Tests.{le-leb, lt-leb, leb-true}
 use lib.Dec.{eqb, leb}
-use lib.ListN.{length, getD, take, drop, drop-of-length-le}
-use lib.Seq.{drop-cons}
+use lib.ListN.{length, getD, take, drop, drop-of-length-le, length-take, length-drop}
+use lib.Seq.{drop-cons, take-take, drop-drop}
 use Rattle.bus.specs.declared.ValueWidth.{ValueWidth}
 use Rattle.bus.specs.Number.{number}
 use Rattle.bus.specs.Width.{bytesOf}
 use Rattle.bus.specs.Value.{classified, readAt}
 use Rattle.bus.proofs.Tests.{by-test, no-yes}
-use Rattle.records.specs.Places.{fieldAt, isThere, allFF, readingOf, readingAt}
+use Rattle.bus.proofs.Lists.{no-element}
+use Rattle.records.specs.Places.{fieldAt, isThere, allFF, readingOf, readingAt, PartReadsAsBank}
 
 module _ (start : ℕ) (bytes : List ℕ) (o n : ℕ) where
   pub before : o < start → fieldAt start bytes o n ≡ none
@@ -79,3 +82,27 @@ module _ (start : ℕ) (bytes : List ℕ) (o n : ℕ) where
       (λ t. absurd (no-yes (sym (rw (s, t) at e))))
       (λ t. rw (s, t)))
       (λ s. rw s)
+
+-- a part of a part
+part-of-part : (m k n : ℕ) (xs : List ℕ) → k + n ≤ m → take n (drop k (take m xs)) ≡ take n (drop k xs)
+part-of-part zero k n xs h =
+    let none-taken : n ≡ 0 = omega arith in
+    rw none-taken
+part-of-part (suc m) k n [] h = refl
+part-of-part (suc m) zero n (x ∷ xs) h = take-take n (suc m) (x ∷ xs) (omega arith)
+part-of-part (suc m) (suc k) n (x ∷ xs) h = part-of-part m k n xs (omega arith)
+
+pub part-reads-as-bank : PartReadsAsBank
+part-reads-as-bank bank start m o n bs some-bytes e =
+    let part = take m (drop start bank) in
+    by-test (isThere (fieldAt start part o n))
+    (λ t.
+    let p = is-there start part o n t in
+    let long : length part ≡ min m (length bank - start) = length-take m (drop start bank) ∙ ap (min m) (length-drop start bank) in
+    let back : start + (o - start) ≡ o = omega (arith, p .from) in
+    let same : take n (drop (o - start) part) ≡ take n (drop (o - 0) bank) =
+    part-of-part m (o - start) n (drop start bank) (omega (arith, p .within))
+    ∙ rw (drop-drop (o - start) start bank, back, sub-zero)
+    in
+    whole 0 bank o n zero-le (omega (arith, p .within, p .from, some-bytes)) ∙ ap some (sym same) ∙ sym (p .is) ∙ e)
+    (λ t. no-element (sym (not-there start part o n t) ∙ e))

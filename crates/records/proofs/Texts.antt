@@ -1,7 +1,7 @@
 -- Laws of a text: where it ends, its pieces, and those that fit.
 -- Assumes nothing.
 use mathlib.Core.Path.{_≡_, refl, sym, ap, _∙_}
-use mathlib.Core.Bool.{Bool, true, false, cond}
+use mathlib.Core.Bool.{Bool, true, cond}
 use mathlib.Core.List.{List, [], _∷_, _++_, append-nil, append-assoc}
 use Prim.Native.Nat.{ℕ, zero, suc, _+_, _-_, _≤_, _<_, max, zero-le}
 use native.Mathlib.Nat.{not-suc-le-zero, sub-zero, le-refl}
@@ -22,7 +22,8 @@ use Rattle.records.specs.declared.fixed_text.TextLimit.the-variants.{Byt
 use Rattle.records.specs.declared.fixed_text.FixedText.{FixedText}
 use Rattle.records.specs.declared.memory_bank_parser.Pushed.{Pushed}
 use Rattle.records.specs.Utf8.{sequenceLen}
-use Rattle.records.specs.Text.{untilZero, escape, piece, piecesBehind, pieces, fitting, pushed, afterPush, escaped, limitOf, zeros, shownText, WithinLimit, PrintableReadsAsItself, ZeroReadsEmpty}
+use Rattle.records.specs.Text.{untilZero, escape, piece, piecesBehind, pieces, fitting, escaped, limitOf, zeros, shownText, WithinLimit, PrintableReadsAsItself, ZeroReadsEmpty}
+use Rattle.records.specs.Steps.{pushed, afterPush}
 use Rattle.records.proofs.Sequences.{fits, one-byte}
 
 -- the first i bytes of a text stand before its first 00
@@ -151,9 +152,9 @@ module _ {raw out₀ out : List ℕ} {len i : ℕ} (l : Laid raw out₀ out len 
       let fit : n ≤ L - len = omega (arith, room-left) in
       let less : L - len - n ≡ L - (len + n) = omega arith in
       let shown : fitting (L - len) (pieces bs) ≡ p ++ fitting (L - (len + n)) (pieces (drop (i + t) raw)) =
-          ap (fitting (L - len)) (pieces-next bs (some-left h))
-          ∙ fitting-in (L - len) p (pieces (drop t bs)) fit
-          ∙ rw (less, drop-drop t i raw)
+      ap (fitting (L - len)) (pieces-next bs (some-left h))
+      ∙ fitting-in (L - len) p (pieces (drop t bs)) fit
+      ∙ rw (less, drop-drop t i raw)
       in
       record {
         done = l .done ++ p;

@@ -4,6 +4,7 @@ pub mod Places
 pub mod Records
 pub mod Utf8
 pub mod Text
+pub mod Steps
 pub mod Identity
 pub mod BusUnit
 pub mod Cases

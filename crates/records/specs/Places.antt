@@ -4,8 +4,9 @@ use mathlib.Core.Path.{_≡_}
 use mathlib.Core.Bool.{Bool, true, false, cond, _&&_}
 use mathlib.Core.List.{List, [], _∷_}
 use mathlib.Core.Option.{Option, none, some, Option·map}
-use Prim.Native.Nat.{ℕ, _-_}
+use Prim.Native.Nat.{ℕ, _-_, _≤_}
 use lib.Dec.{eqb, leb}
+use lib.ListN.{take, drop}
 use lib.IntN.{ℤ, pos, negℤ}
 use lib.Signed.{leZ}
 use Rattle.bus.specs.declared.OptionU64.{OptionU64}
@@ -69,6 +70,12 @@ scaleIn (some b) = scaleOf b
 
 abbrev pub scaleAt : ℕ → List ℕ → ℕ → Option ℤ
 scaleAt start bytes o = scaleIn (byteAt start bytes o)
+
+-- A field that is present in a part of a bank, from the start offset on, is the field of the bank (a field has a byte).
+abbrev pub PartReadsAsBank : Type 0
+PartReadsAsBank =
+    (bank : List ℕ) (start m o n : ℕ) (bs : List ℕ) →
+    1 ≤ n → fieldAt start (take m (drop start bank)) o n ≡ some bs → fieldAt 0 bank o n ≡ some bs
 
 -- No reading shows a mask: the value that it has is the number of its own bytes, and neither mask of its width.
 abbrev pub NoReadingShowsMask : Type 0

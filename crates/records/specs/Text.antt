@@ -4,16 +4,15 @@ use mathlib.Core.Path.{_≡_}
 use mathlib.Core.Bool.{Bool, true, false, cond}
 use mathlib.Core.List.{List, [], _∷_, _++_}
 use mathlib.Core.Option.{Option, none, some}
-use Prim.Native.Nat.{ℕ, zero, suc, _+_, _-_, _/_, _%_, _≤_, max}
+use Prim.Native.Nat.{ℕ, zero, suc, _+_, _-_, _/_, _%_, _≤_}
 use lib.Dec.{eqb, leb, ltb}
-use lib.ListN.{length, take, drop, replicate}
+use lib.ListN.{length, take, replicate}
 use Rattle.bus.specs.declared.part251.TextRegion.{TextRegion}
 use Rattle.bus.specs.Value.{laidInto}
 use Rattle.bank.specs.Fields.{printable}
 use Rattle.records.specs.declared.fixed_text.TextLimit.{TextLimit}
 use Rattle.records.specs.declared.fixed_text.TextLimit.the-variants.{Bytes32, Bytes64}
 use Rattle.records.specs.declared.fixed_text.FixedText.{FixedText}
-use Rattle.records.specs.declared.memory_bank_parser.Pushed.{Pushed}
 use Rattle.records.specs.Places.{fieldAt, isThere}
 use Rattle.records.specs.Utf8.{sequenceLen}
 
@@ -48,15 +47,6 @@ pieces bytes = piecesBehind 0 bytes
 unfoldable pub fitting : ℕ → List (List ℕ) → List ℕ
 fitting room [] = []
 fitting room (p ∷ ps) = cond (leb (length p) room) (p ++ fitting (room - length p) ps) []
-
--- how many bytes of a text were taken, and how many they became in a slice: 0 where they do not fit
-abbrev pub pushed : List ℕ → List ℕ → Pushed
-pushed bytes out =
-    record { taken = max 1 (sequenceLen bytes); len = cond (leb (length (piece bytes)) (length out)) (length (piece bytes)) 0 }
-
--- what a piece leaves of a slice: all of it enters, or nothing
-abbrev pub afterPush : List ℕ → List ℕ → List ℕ
-afterPush p out = cond (leb (length p) (length out)) (laidInto p out) out
 
 -- what is shown of a text within a limit
 abbrev pub escaped : ℕ → List ℕ → List ℕ

@@ -72,7 +72,11 @@ impl IdentityRead {
             return IdentityRead::Unread;
         }
         let gtin = within(window, GTIN_OFFSET, GTIN_LEN);
-        let number = within(window, IDENTIFICATION_NUMBER_OFFSET, IDENTIFICATION_NUMBER_LEN);
+        let number = within(
+            window,
+            IDENTIFICATION_NUMBER_OFFSET,
+            IDENTIFICATION_NUMBER_LEN,
+        );
         let index = within(window, LOGICAL_GEAR_INDEX_OFFSET, 1);
         if is_mask(gtin) || is_mask(number) || is_mask(index) {
             return IdentityRead::Unprovable;

@@ -24,16 +24,16 @@ use bus::read_value;
 use bus::signed_byte;
 ghost use mathlib.Core.Path.{_≡_};
 ghost use mathlib.Core.Bool.{cond};
-ghost use mathlib.Core.List.{_++_};
 ghost use Prim.Native.Nat.{_+_, _-_, _≤_, _<_};
-ghost use lib.ListN.{length, take, drop};
+ghost use lib.ListN.{length, take};
 ghost use lib.Dec.{leb};
 ghost use Rattle.bus.specs.Options.{optionU8, optionU64};
 ghost use Rattle.bus.specs.Value.{notImplemented, laidInto};
 ghost use Rattle.records.specs.Options.{optionI8, optionBankReading};
 ghost use Rattle.records.specs.Places.{fieldAt, isThere, byteAt, numberAt, readingOf, readingAt, isScale, scaleOf, scaleAt};
 ghost use Rattle.records.specs.Records.{bank0Identity, bank1Profile, bank0BusUnit, energyBank, condition, gearDiagnostics, sourceDiagnostics, luminaireMaintenance};
-ghost use Rattle.records.specs.Text.{untilZero, textBytes, textPresent, hexDigit, escape, piece, escaped, pushed, afterPush, shownText, textRegion};
+ghost use Rattle.records.specs.Text.{untilZero, textBytes, textPresent, hexDigit, escape, piece, escaped, shownText, textRegion};
+ghost use Rattle.records.specs.Steps.{pushed, afterPush};
 
 pub struct ParsedMemoryIdentity {
     pub last_memory_bank: OptionU8,
@@ -219,7 +219,12 @@ pub fn parse_bank0_bus_unit(bytes: &[u8], start_offset: u16) -> ParsedBusUnit
 pub fn text_present(bytes: &[u8], start_offset: u16, region: TextRegion) -> bool
     ensures { λ r. ⌜ r ≡ textPresent «start_offset» (now (bytes .entry)) region ⌝ }
 {
-    holds(bytes, start_offset, region.offset as usize, region.len as usize)
+    holds(
+        bytes,
+        start_offset,
+        region.offset as usize,
+        region.len as usize,
+    )
 }
 
 // How many bytes stand before the first 00.

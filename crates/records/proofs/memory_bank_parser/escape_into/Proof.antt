@@ -1,10 +1,9 @@
 -- `records::memory_bank_parser::escape_into` meets its contract. The invariant: the text is laid up to byte i. The measure is
 -- the number of bytes that are left.
 -- Assumes nothing.
-use mathlib.Core.Path.{_≡_, sym, ap, _∙_}
-use Prim.Native.Nat.{_+_, _-_, _≤_, _<_}
+use mathlib.Core.Path.{ap, _∙_}
+use Prim.Native.Nat.{_+_, _-_}
 use native.Mathlib.Omega.{arith}
-use borrow.Author.Needs.{needs}
 use borrow.Rule.Slice.PartMut.{putMid}
 use lib.ListN.{length, length-take, length-drop}
 use Rattle.records.proofs.Texts.{Laid, begun, same, some-taken, laid-on, unchanged, stopped, no-next, all-laid}

@@ -1,12 +1,9 @@
 -- `records::memory_bank_parser::escape_into_bounded` meets its contract: the text is laid into the first bytes of an array of 00.
 -- Assumes nothing.
-use mathlib.Core.Path.{_≡_, sym, ap, _∙_}
-use Prim.Native.Nat.{ℕ, _≤_}
-use native.Mathlib.Omega.{arith}
+use mathlib.Core.Path.{sym}
+use Prim.Native.Nat.{_≤_}
 use borrow.Author.Needs.{needs}
-use lib.ListN.{length, take, drop}
 use lib.Seq.{length-take-le}
-use Rattle.records.specs.Text.{limitOf}
 use Rattle.records.proofs.Texts.{at-most-64, bounded}
 use Rattle.records.proofs.memory_bank_parser.escape_into_bounded.Statement.{statement}
 use Rattle.records.proofs.memory_bank_parser.escape_into_bounded.Tie as tie

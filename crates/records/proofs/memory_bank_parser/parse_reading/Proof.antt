@@ -1,13 +1,10 @@
 -- `records::memory_bank_parser::parse_reading` meets its contract: from the start offset on it is what `read_value` says.
 -- Assumes nothing.
-use mathlib.Core.Option.{Option, Option·map}
 use Prim.Native.Nat.{_-_}
 use native.Mathlib.Omega.{arith}
 use borrow.Author.Needs.{needs}
-use Rattle.bus.specs.declared.BankValue.{BankValue}
 use Rattle.bus.specs.Value.{readAt}
 use Rattle.bus.proofs.Options.{told-value}
-use Rattle.records.specs.Places.{readingAt}
 use Rattle.records.proofs.Places.{before, read-behind}
 use Rattle.records.proofs.memory_bank_parser.parse_reading.Statement.{statement}
 use Rattle.records.proofs.memory_bank_parser.parse_reading.Tie as tie

@@ -1,6 +1,5 @@
 -- `records::memory_bank_parser::parse_scale` meets its contract, by the byte that is found.
 -- Assumes nothing.
-use mathlib.Core.Path.{ap}
 use borrow.Author.Needs.{needs}
 use Rattle.bus.proofs.Options.{told-byte}
 use Rattle.records.specs.Places.{byteAt}

@@ -1,7 +1,7 @@
 -- `records::memory_bank_parser::push` meets its contract. The invariant: the first i bytes of the piece are stored. The
 -- measure is what is left of it.
 -- Assumes nothing.
-use mathlib.Core.Path.{_≡_, refl, sym, ap, _∙_}
+use mathlib.Core.Path.{_≡_, refl, ap, _∙_}
 use mathlib.Core.List.{List, _++_}
 use Prim.Native.Nat.{_+_, _-_, _≤_}
 use native.Mathlib.Omega.{arith}

@@ -1,10 +1,10 @@
 -- `records::memory_bank_parser::push_next` meets its contract: what is pushed is the piece.
 -- Assumes nothing.
 use mathlib.Core.Path.{_≡_, sym, ap, _∙_}
-use Prim.Native.Nat.{ℕ, _≤_, _<_, max}
+use Prim.Native.Nat.{ℕ, _≤_, max}
 use native.Mathlib.Omega.{arith}
 use borrow.Author.Needs.{needs}
-use lib.ListN.{length, getD, take}
+use lib.ListN.{length, take}
 use lib.Seq.{length-take-le}
 use denote.Ref.{now}
 use Rattle.records.specs.declared.memory_bank_parser.Pushed.{Pushed}

@@ -1,11 +1,10 @@
 -- `records::memory_bank_parser::text_len` meets its contract. The invariant: none of the first i bytes is 00. The measure is
 -- the number of bytes that are left.
 -- Assumes nothing.
-use mathlib.Core.Path.{_≡_, refl, sym, ap, _∙_}
-use mathlib.Core.List.{List, _++_}
+use mathlib.Core.Path.{_≡_, refl}
+use mathlib.Core.List.{_++_}
 use Prim.Native.Nat.{_+_, _-_, _≤_}
 use native.Mathlib.Omega.{arith}
-use borrow.Author.Tests.{eq-eqb, ne-eqb}
 use lib.ListN.{length, take, drop}
 use Rattle.records.specs.Text.{untilZero}
 use Rattle.records.proofs.Texts.{zero-at, next-byte, no-byte}

@@ -1,6 +1,6 @@
 -- `records::memory_bank_parser::text_region` meets its contract, by whether the region is there.
 -- Assumes nothing.
-use mathlib.Core.Path.{_≡_, sym, ap, _∙_}
+use mathlib.Core.Path.{sym, ap, _∙_}
 use borrow.Author.Tests.{not-true, not-false}
 use borrow.Author.Needs.{needs}
 use Rattle.records.specs.Text.{shownText}

@@ -2,14 +2,14 @@
 -- measure is the number of bytes that are left.
 -- Assumes nothing.
 use mathlib.Core.Path.{_≡_, sym, ap, _∙_}
-use mathlib.Core.Bool.{Bool, cond, _&&_}
-use mathlib.Core.List.{List, _∷_}
-use Prim.Native.Nat.{ℕ, suc, _+_, _-_, _≤_, _<_}
+use mathlib.Core.Bool.{Bool, _&&_}
+use mathlib.Core.List.{_∷_}
+use Prim.Native.Nat.{suc, _+_, _-_, _≤_, _<_}
 use native.Mathlib.Omega.{arith}
 use borrow.Author.Tests.{not-true, not-false}
 use borrow.Author.Needs.{needs}
-use lib.ListN.{length, getD, drop, replicate, length-drop, length-replicate}
-use Rattle.records.specs.Utf8.{Range, to, tail, follow}
+use lib.ListN.{length, drop, replicate, length-drop, length-replicate}
+use Rattle.records.specs.Utf8.{to, tail, follow}
 use Rattle.records.proofs.Sequences.{next, next-tail, no-more, too-few}
 use Rattle.records.proofs.utf8.followed.Statement.{statement}
 use Rattle.records.proofs.utf8.followed.Tie as tie

@@ -1,17 +1,17 @@
 -- `records::bus_unit::ImplementedParts::parts` meets its contract. The invariant: the parts of the bits below one are stored.
 -- The measure is the number of bits that are left.
 -- Assumes nothing.
-use mathlib.Core.Path.{_≡_, refl, sym, ap, _∙_}
+use mathlib.Core.Path.{_≡_, sym, ap, _∙_}
 use mathlib.Core.Logic.{⊎-elim}
 use mathlib.Core.List.{List}
-use Prim.Native.Nat.{ℕ, _+_, _-_, _≤_, _<_}
+use Prim.Native.Nat.{ℕ, _-_, _≤_}
 use native.Mathlib.Omega.{arith}
 use borrow.Author.Needs.{needs}
 use borrow.Author.Tests.{not-true, not-false}
 use lib.ListN.{length}
 use Rattle.bus.specs.Value.{laidInto}
 use Rattle.bus.proofs.Lists.{length-laid}
-use Rattle.records.specs.BusUnit.{inRange, partsOf}
+use Rattle.records.specs.BusUnit.{partsOf}
 use Rattle.records.proofs.Parts.{below, Stored, set-bit, clear-bit, no-part, nothing-stored, all-bits}
 use Rattle.records.proofs.bus_unit.ImplementedParts.parts.Statement.{statement}
 use Rattle.records.proofs.bus_unit.ImplementedParts.parts.Tie as tie
@@ -59,8 +59,7 @@ loop-less c = omega arith
 
 loop-again : tie.Need-loop-again Inv-loop μ-loop
 loop-again c =
-    let l = c .before .before .before in
-    (
+    let l = c .before .before .before in (
       omega arith,
       ⊎-elim
           (λ t. set-bit (l .loop .inv .1) (t .0 .taken) (t .5 ∙ t .2 .ensures) (t .6))

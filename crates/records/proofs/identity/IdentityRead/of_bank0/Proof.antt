@@ -1,6 +1,6 @@
 -- `records::identity::IdentityRead::of_bank0` meets its contract: it is what the window says, once it is there.
 -- Assumes nothing.
-use mathlib.Core.Path.{_≡_, sym, ap, _∙_}
+use mathlib.Core.Path.{sym, _∙_}
 use native.Mathlib.Omega.{arith}
 use borrow.Author.Needs.{needs}
 use Rattle.records.proofs.Window.{no-bytes, too-short, cut-short, its-window}

@@ -1,16 +1,13 @@
 -- `records::identity::IdentityRead::of_window` meets its contract, by the three parts of the window.
 -- Assumes nothing.
-use mathlib.Core.Path.{_≡_, sym, ap, _∙_}
+use mathlib.Core.Path.{_≡_, sym, _∙_}
 use mathlib.Core.Logic.{⊎-elim}
-use mathlib.Core.Bool.{true, false}
 use mathlib.Core.Option.{some, bind}
-use Prim.Native.Nat.{_≤_, _<_}
 use native.Mathlib.Omega.{arith}
 use borrow.Author.Tests.{ne-eqb}
 use borrow.Author.Needs.{needs}
-use lib.ListN.{length, length-take, length-drop}
+use lib.ListN.{length-take, length-drop}
 use denote.Ref.{now}
-use Rattle.records.specs.declared.identity.IdentityRead.{IdentityRead}
 use Rattle.records.specs.Places.{allFF, unlessFF}
 use Rattle.records.specs.Identity.{identityOf, knownIf, ofWindow}
 use Rattle.records.proofs.Window.{in-window, one-byte}

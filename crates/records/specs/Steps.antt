@@ -1,0 +1,20 @@
+-- What the inner functions of the text reader answer; no outside call speaks of it.
+-- Assumes nothing.
+use mathlib.Core.Bool.{cond}
+use mathlib.Core.List.{List}
+use Prim.Native.Nat.{ℕ, max}
+use lib.Dec.{leb}
+use lib.ListN.{length}
+use Rattle.bus.specs.Value.{laidInto}
+use Rattle.records.specs.declared.memory_bank_parser.Pushed.{Pushed}
+use Rattle.records.specs.Utf8.{sequenceLen}
+use Rattle.records.specs.Text.{piece}
+
+-- how many bytes of a text were taken, and how many they became in a slice: 0 where they do not fit
+abbrev pub pushed : List ℕ → List ℕ → Pushed
+pushed bytes out =
+    record { taken = max 1 (sequenceLen bytes); len = cond (leb (length (piece bytes)) (length out)) (length (piece bytes)) 0 }
+
+-- what a piece leaves of a slice: all of it enters, or nothing
+abbrev pub afterPush : List ℕ → List ℕ → List ℕ
+afterPush p out = cond (leb (length p) (length out)) (laidInto p out) out
