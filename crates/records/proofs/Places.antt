@@ -106,3 +106,8 @@ part-reads-as-bank bank start m o n bs some-bytes e =
     in
     whole 0 bank o n zero-le (omega (arith, p .within, p .from, some-bytes)) ∙ ap some (sym same) ∙ sym (p .is) ∙ e)
     (λ t. no-element (sym (not-there start part o n t) ∙ e))
+
+-- what is there under a test is there where the test holds
+pub there-if : (b : Bool) (bs : List ℕ) → b ≡ isThere (cond b (some bs) none)
+there-if true bs = refl
+there-if false bs = refl

@@ -8,7 +8,7 @@ use Prim.Native.Nat.{ℕ, zero, suc, _+_, _-_, _/_, _%_, _≤_}
 use lib.Dec.{eqb, leb, ltb}
 use lib.ListN.{length, take, replicate}
 use Rattle.bus.specs.declared.part251.TextRegion.{TextRegion}
-use Rattle.bus.specs.Value.{laidInto}
+use Rattle.bus.specs.Value.{bytesAt, laidInto}
 use Rattle.bank.specs.Fields.{printable}
 use Rattle.records.specs.declared.fixed_text.TextLimit.{TextLimit}
 use Rattle.records.specs.declared.fixed_text.TextLimit.the-variants.{Bytes32, Bytes64}
@@ -70,25 +70,25 @@ shownText limit bytes =
 abbrev pub absentText : TextLimit → FixedText
 absentText limit = record { present = false; limit = limit; len = 0; bytes = zeros }
 
-abbrev regionOf : ℕ → List ℕ → TextRegion → Option (List ℕ)
-regionOf start bytes t = fieldAt start bytes (t .offset) (t .len)
-
--- "a yes or no of its own tells whether the region is present"
-abbrev pub textPresent : ℕ → List ℕ → TextRegion → Bool
-textPresent start bytes t = isThere (regionOf start bytes t)
-
 abbrev beforeZero : Option (List ℕ) → List ℕ
 beforeZero none = []
-beforeZero (some bs) = untilZero bs
+beforeZero (some region) = untilZero region
 
 -- "`text_bytes` hands back the part of the caller's bank before the 00; for a region not wholly present the part is empty"
-abbrev pub textBytes : ℕ → List ℕ → TextRegion → List ℕ
-textBytes start bytes t = beforeZero (regionOf start bytes t)
+abbrev pub textBytes : List ℕ → TextRegion → List ℕ
+textBytes bank t = beforeZero (bytesAt (t .offset) (t .len) bank)
 
--- a text field as it is shown
+-- "and a yes or no of its own tells whether the region is present"
+abbrev pub textPresent : List ℕ → TextRegion → Bool
+textPresent bank t = isThere (bytesAt (t .offset) (t .len) bank)
+
+abbrev textIn : TextLimit → Option (List ℕ) → FixedText
+textIn limit none = absentText limit
+textIn limit (some region) = shownText limit (untilZero region)
+
+-- a text field as it is shown, from given bytes and their start offset
 abbrev pub textRegion : ℕ → List ℕ → TextRegion → TextLimit → FixedText
-textRegion start bytes t limit =
-    cond (textPresent start bytes t) (shownText limit (textBytes start bytes t)) (absentText limit)
+textRegion start bytes t limit = textIn limit (fieldAt start bytes (t .offset) (t .len))
 
 -- what is shown of a region
 abbrev pub shownOf : ℕ → List ℕ → List ℕ

@@ -1,10 +1,11 @@
-// The record layer: what the bytes of a bank say (memory_bank_parser.rs, attributes.rs), who a device is
-// (identity.rs), and what a bus unit is made of (bus_unit.rs).
+// The record layer: what the bytes of a bank say (memory_bank_parser.rs, attributes.rs) and its texts (part251.rs), who a
+// device is (identity.rs), and what a bus unit is made of (bus_unit.rs).
 pub mod attributes;
 pub mod bus_unit;
 pub mod fixed_text;
 pub mod identity;
 pub mod memory_bank_parser;
+pub mod part251;
 mod utf8;
 
 pub use attributes::BankReading;

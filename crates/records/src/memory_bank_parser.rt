@@ -13,6 +13,7 @@ use crate::identity::IDENTIFICATION_NUMBER_LEN;
 use crate::identity::IDENTIFICATION_NUMBER_OFFSET;
 use crate::identity::is_mask;
 use crate::identity::number_of;
+use crate::part251::text_len;
 use crate::utf8::sequence_len;
 use bus::BankValue;
 use bus::OptionBankValue;
@@ -25,14 +26,14 @@ use bus::signed_byte;
 ghost use mathlib.Core.Path.{_≡_};
 ghost use mathlib.Core.Bool.{cond};
 ghost use Prim.Native.Nat.{_+_, _-_, _≤_, _<_};
-ghost use lib.ListN.{length, take};
+ghost use lib.ListN.{length};
 ghost use lib.Dec.{leb};
 ghost use Rattle.bus.specs.Options.{optionU8, optionU64};
 ghost use Rattle.bus.specs.Value.{notImplemented, laidInto};
 ghost use Rattle.records.specs.Options.{optionI8, optionBankReading};
 ghost use Rattle.records.specs.Places.{fieldAt, isThere, byteAt, numberAt, readingOf, readingAt, isScale, scaleOf, scaleAt};
 ghost use Rattle.records.specs.Records.{bank0Identity, bank1Profile, bank0BusUnit, energyBank, condition, gearDiagnostics, sourceDiagnostics, luminaireMaintenance};
-ghost use Rattle.records.specs.Text.{untilZero, textBytes, textPresent, hexDigit, escape, piece, escaped, shownText, textRegion};
+ghost use Rattle.records.specs.Text.{hexDigit, escape, piece, escaped, shownText, textRegion};
 ghost use Rattle.records.specs.Steps.{pushed, afterPush};
 
 pub struct ParsedMemoryIdentity {
@@ -215,46 +216,6 @@ pub fn parse_bank0_bus_unit(bytes: &[u8], start_offset: u16) -> ParsedBusUnit
     }
 }
 
-// Whether a text's region is wholly present.
-pub fn text_present(bytes: &[u8], start_offset: u16, region: TextRegion) -> bool
-    ensures { λ r. ⌜ r ≡ textPresent «start_offset» (now (bytes .entry)) region ⌝ }
-{
-    holds(
-        bytes,
-        start_offset,
-        region.offset as usize,
-        region.len as usize,
-    )
-}
-
-// How many bytes stand before the first 00.
-fn text_len(raw: &[u8]) -> usize
-    ensures { λ r. ⌜ (r ≤ length (now (raw .entry))) × (take r (now (raw .entry)) ≡ untilZero (now (raw .entry))) ⌝ }
-{
-    let mut i = 0;
-    while i < raw.len() {
-        if raw[i] == 0 {
-            return i;
-        }
-        i += 1;
-    }
-    i
-}
-
-// The part of a text's region before its first 00; empty where the region is not wholly present.
-pub fn text_bytes(bytes: &[u8], start_offset: u16, region: TextRegion) -> &[u8]
-    ensures { λ r. ⌜ now r ≡ textBytes «start_offset» (now (bytes .entry)) region ⌝ }
-{
-    if !text_present(bytes, start_offset, region) {
-        return &bytes[..0];
-    }
-    let rel = region.offset as usize - start_offset as usize;
-    let end = rel + region.len as usize;
-    let len = text_len(&bytes[rel..end]);
-    let cut = rel + len;
-    &bytes[rel..cut]
-}
-
 // A text field as it is shown.
 pub fn text_region(
     bytes: &[u8],
@@ -264,10 +225,19 @@ pub fn text_region(
 ) -> FixedText
     ensures { λ r. ⌜ r ≡ textRegion «start_offset» (now (bytes .entry)) region limit ⌝ }
 {
-    if !text_present(bytes, start_offset, region) {
+    if !holds(
+        bytes,
+        start_offset,
+        region.offset as usize,
+        region.len as usize,
+    ) {
         return FixedText::absent(limit);
     }
-    escape_into_bounded(text_bytes(bytes, start_offset, region), limit)
+    let rel = region.offset as usize - start_offset as usize;
+    let end = rel + region.len as usize;
+    let raw = &bytes[rel..end];
+    let cut = text_len(raw);
+    escape_into_bounded(&raw[..cut], limit)
 }
 
 // What a text becomes, byte by byte.

@@ -1,42 +1,95 @@
--- `records::memory_bank_parser::text_region` meets its contract, by whether the region is there.
+-- `records::memory_bank_parser::text_region` meets its contract: what is shown of a region that is there.
 -- Assumes nothing.
-use mathlib.Core.Path.{sym, ap, _∙_}
+use mathlib.Core.Path.{_≡_, sym, ap, _∙_}
+use Prim.Native.Nat.{ℕ, _+_, _-_}
+use native.Mathlib.Omega.{arith}
 use borrow.Author.Tests.{not-true, not-false}
 use borrow.Author.Needs.{needs}
-use Rattle.records.specs.Text.{shownText}
+use lib.ListN.{take, drop}
+use lib.Seq.{length-take-le}
+use Rattle.records.specs.Text.{untilZero, shownText}
+use Rattle.records.proofs.Places.{There, is-there, not-there}
 use Rattle.records.proofs.memory_bank_parser.text_region.Statement.{statement}
 use Rattle.records.proofs.memory_bank_parser.text_region.Tie as tie
 
-text-present-requires : tie.Need-text-present-requires
-text-present-requires c κs = search needs
+there : (c : tie.Else1) → (let a = c .before .before .before .before .before .args in There (a .start-offset) (a .bytes .now) (a .region .offset) (a .region .len))
+there c = is-there _ _ _ _ (sym (c .before .holds .ensures) ∙ not-false _ (c .if1 .left))
+
+cast-holds : tie.Need-cast-holds
+cast-holds c = search needs
+
+cast-holds-2 : tie.Need-cast-holds-2
+cast-holds-2 c = search needs
+
+holds-requires : tie.Need-holds-requires
+holds-requires c κs = search needs
 
 absent-requires : tie.Need-absent-requires
 absent-requires c κs = search needs
 
 returns : tie.Need-returns
 returns c =
-    let t = c .before .before in
-    rw (sym (t .text-present .ensures) ∙ not-true _ (c .before .if1 .taken)) (c .absent .ensures)
+    let h = c .before .before in
+    let a = h .before .before .before .before .args in
+    rw (not-there (a .start-offset) (a .bytes .now) (a .region .offset) (a .region .len) (sym (h .holds .ensures) ∙ not-true _ (c .before .if1 .taken))) (c .absent .ensures)
 
-text-bytes-requires : tie.Need-text-bytes-requires
-text-bytes-requires c κs = search needs
+cast-rel : tie.Need-cast-rel
+cast-rel c = search needs
+
+sub-rel : tie.Need-sub-rel
+sub-rel c = there (c .before) .from
+
+cast-end : tie.Need-cast-end
+cast-end c = search needs
+
+add-end : tie.Need-add-end
+add-end c = search needs
+
+sub-raw : tie.Need-sub-raw
+sub-raw c = search needs
+
+part-raw-start : tie.Need-part-raw-start
+part-raw-start c = search needs
+
+part-raw-end : tie.Need-part-raw-end
+part-raw-end c = there (c .before .before) .within
+
+text-len-requires : tie.Need-text-len-requires
+text-len-requires c κs = search needs
+
+slice-aggregate-escape-into-bounded : tie.Need-slice-aggregate-escape-into-bounded
+slice-aggregate-escape-into-bounded c = sym (length-take-le _ _ (c .before .text-len .ensures .0))
 
 escape-into-bounded-requires : tie.Need-escape-into-bounded-requires
 escape-into-bounded-requires c κs = search needs
 
 returns-2 : tie.Need-returns-2
 returns-2 c =
-    let t = c .before .before .before in
-    rw (sym (t .text-present .ensures) ∙ not-false _ (c .before .before .if1 .left))
-    (c .escape-into-bounded .ensures ∙ ap (shownText (t .before .before .args .limit)) (c .before .text-bytes .ensures))
+    let e = c .before .before .before .before .before .before in
+    let a = e .before .before .before .before .before .args in
+    let o = a .region .offset - a .start-offset in
+    let n : o + a .region .len - o ≡ a .region .len = omega arith in
+    rw (there e .is)
+    (c .escape-into-bounded .ensures
+    ∙ ap (shownText (a .limit)) (c .before .before .text-len .ensures .1 ∙ ap (λ (k : ℕ). untilZero (take k (drop o (a .bytes .now)))) n))
 
 pub text-region-spec : {M : Type 1} → statement M
 text-region-spec =
     tie.close
     (tie.spec
-    text-present-requires
+    cast-holds
+    cast-holds-2
+    holds-requires
     absent-requires
     returns
-    text-bytes-requires
+    cast-rel
+    sub-rel
+    cast-end
+    add-end
+    sub-raw
+    part-raw-start
+    part-raw-end
+    text-len-requires
+    slice-aggregate-escape-into-bounded
     escape-into-bounded-requires
     returns-2)

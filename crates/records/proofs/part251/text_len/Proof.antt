@@ -1,4 +1,4 @@
--- `records::memory_bank_parser::text_len` meets its contract. The invariant: none of the first i bytes is 00. The measure is
+-- `records::part251::text_len` meets its contract. The invariant: none of the first i bytes is 00. The measure is
 -- the number of bytes that are left.
 -- Assumes nothing.
 use mathlib.Core.Path.{_≡_, refl}
@@ -8,8 +8,8 @@ use native.Mathlib.Omega.{arith}
 use lib.ListN.{length, take, drop}
 use Rattle.records.specs.Text.{untilZero}
 use Rattle.records.proofs.Texts.{zero-at, next-byte, no-byte}
-use Rattle.records.proofs.memory_bank_parser.text_len.Statement.{statement}
-use Rattle.records.proofs.memory_bank_parser.text_len.Tie as tie
+use Rattle.records.proofs.part251.text_len.Statement.{statement}
+use Rattle.records.proofs.part251.text_len.Tie as tie
 
 abbrev Inv-loop : tie.InvT-loop
 Inv-loop raw i₀ i = (i ≤ length raw) × (take i raw ++ untilZero (drop i raw) ≡ untilZero raw)
