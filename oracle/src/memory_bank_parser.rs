@@ -4,7 +4,6 @@ mod fields;
 mod records;
 mod texts;
 
-use dali2rust_domain::dali::banks::part251::{text_bytes, TextRegion};
 use dali2rust_domain::registry::BankReading;
 use dali2rust_registry_runtime::memory_bank_parser::asked::{
     byte, escape_into_bounded, parse_bank0_bus_unit, parse_bank0_identity, parse_bank1_profile, parse_energy_bank,
@@ -13,15 +12,14 @@ use dali2rust_registry_runtime::memory_bank_parser::asked::{
 };
 
 use crate::function::{Function, Row};
-use crate::line::{Args, Line, Output, Put, Sequence, Take};
+use crate::line::{Args, Line, Put, Sequence, Take};
 use fields::{
     byte_cases, random_byte, random_reading, random_scale, reading_cases, scale_cases, ByteCase, ReadingCase, ScaleCase,
 };
 use records::{random_record, record_cases, RecordCase};
-use texts::{
-    escape_cases, every_sequence, random_escape, random_region, random_text_case, region_cases, text_cases, EscapeCase,
-    RegionCase, TextCase,
-};
+use texts::{escape_cases, every_sequence, random_escape, random_text_case, text_cases, EscapeCase, TextCase};
+
+pub use texts::{bank_text_cases, random_bank_text, BankTextCase};
 
 pub const FUNCTIONS: &[&dyn Function] = &[
     &Row::new(0x70, "byte", |(start, index, bytes): ByteCase| byte(&bytes, start, index), byte_cases)
@@ -54,16 +52,8 @@ pub const FUNCTIONS: &[&dyn Function] = &[
         record_cases::<207>,
     )
     .random(random_record::<207>),
-    &Row::new(
-        0x7A,
-        "whether a text's region is present",
-        |(start, region, bytes): RegionCase| text_region::<64>(&bytes, start, region).is_some(),
-        region_cases,
-    )
-    .random(random_region),
-    &Row::new(0x7B, "the part of a text before its 00", part_before_00, region_cases).random(random_region),
-    &Row::new(0x7C, "text_region", text_of_region, text_cases).random(random_text_case),
-    &Row::new(0x7D, "escape_into_bounded", escaped, escape_cases).domain(every_sequence).random(random_escape),
+    &Row::new(0x7A, "text_region", text_of_region, text_cases).random(random_text_case),
+    &Row::new(0x7B, "escape_into_bounded", escaped, escape_cases).domain(every_sequence).random(random_escape),
 ];
 
 fn members(parser: fn(&[u8], u16) -> Vec<Member>, (start, bytes): RecordCase) -> Sequence<Member> {
@@ -88,14 +78,6 @@ impl Put for BankReading {
         assert!(self.tmask_since_ms.is_none());
         line.put(&(self.value, self.not_implemented, self.temporarily_unavailable, self.saturated));
     }
-}
-
-/// Empty for a region that is absent. The Rust's `text_bytes` has no start offset, so the region is moved by it.
-fn part_before_00((start, region, bytes): RegionCase) -> Output {
-    let offset = u16::from(region.offset).checked_sub(start);
-    let moved = offset.map(|offset| TextRegion { offset: offset as u8, ..region });
-    let part = moved.and_then(|region| text_bytes(&bytes, region));
-    Output(part.unwrap_or_default().to_vec())
 }
 
 /// How many bytes a text may have.

@@ -1,8 +1,8 @@
 //! The functions of `banks/part251.rs`.
 
 use dali2rust_domain::dali::banks::part251::{
-    cct, cri, lamp_current_ma, light_distribution_type, light_output_lm, mains_voltage_v, power_w, week, year,
-    CctReading, LightDistributionType, LuminaireFormat, TextRegion, BANK1_BASE_LAST_OFFSET,
+    cct, cri, lamp_current_ma, light_distribution_type, light_output_lm, mains_voltage_v, power_w, text_bytes, week,
+    year, CctReading, LightDistributionType, LuminaireFormat, TextRegion, BANK1_BASE_LAST_OFFSET,
     BANK1_FORMAT_GATE_LAST_OFFSET, BANK_LUMINAIRE_INFO, CCT_OFFSET, CONTENT_FORMAT_ID_OFFSET, CRI_OFFSET,
     CUSTOMER_STOCKING_NUMBER, FREE_USE, LAMP_CURRENT_OFFSET, LIGHT_DISTRIBUTION, LIGHT_DISTRIBUTION_TYPE_OFFSET,
     LUMINAIRE_COLOUR, LUMINAIRE_IDENTIFICATION, NOMINAL_INPUT_POWER_OFFSET, NOMINAL_LIGHT_OUTPUT_OFFSET,
@@ -11,7 +11,8 @@ use dali2rust_domain::dali::banks::part251::{
 };
 
 use crate::function::{Function, Row, Source};
-use crate::line::{Args, Line, Put, Take};
+use crate::line::{Args, Line, Output, Put, Take};
+use crate::memory_bank_parser::{bank_text_cases, random_bank_text, BankTextCase};
 
 pub const FUNCTIONS: &[&dyn Function] = &[
     &Row::new(0x20, "LuminaireFormat::from_content_format_id", LuminaireFormat::from_content_format_id, ids),
@@ -40,7 +41,12 @@ pub const FUNCTIONS: &[&dyn Function] = &[
     &Row::new(0x2E, "lamp_current_ma", lamp_current_ma, |source| {
         words(source, &[0, 1, 0x00FF, 0xFF00, 0xFFFE, 0xFFFF])
     }),
+    &Row::new(0x2F, "text_bytes", text_before_00, bank_text_cases).random(random_bank_text),
 ];
+
+fn text_before_00((region, bank): BankTextCase) -> Option<Output> {
+    text_bytes(&bank, region).map(|text| Output(text.to_vec()))
+}
 
 /// The constants in the order of `part251.rs`. Its map is compared entry by entry in `layout`.
 fn constants(_: ()) -> ([u8; 14], [TextRegion; 6], u8) {

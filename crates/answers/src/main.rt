@@ -1,9 +1,12 @@
 // Answers the requests of the comparison with the Rust (oracle/README.md): a line of hexadecimal
 // digits for each request on standard input, a line for each answer on standard output.
 mod banks;
+mod bus_unit;
+mod identity;
 mod layout;
 mod line;
 mod luminaire_write;
+mod memory_bank_parser;
 mod part251;
 mod read_out;
 
@@ -20,6 +23,9 @@ fn answer(request: &[u8], text: &mut [u8], n: usize) -> usize {
         2 => part251::answer(number, request, text, n),
         3 => luminaire_write::answer(number, request, text, n),
         4 => read_out::answer(number, request, text, n),
+        5 => identity::answer(number, request, text, n),
+        6 => bus_unit::answer(number, request, text, n),
+        7 => memory_bank_parser::answer(number, request, text, n),
         _ => n,
     }
 }

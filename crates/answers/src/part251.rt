@@ -3,6 +3,8 @@ use crate::line;
 use bank::CctReading;
 use bank::LightDistributionType;
 use bus::LuminaireFormat;
+use bus::TextRegion;
+ghost use Prim.Native.Nat.{_≤_};
 
 pub(crate) fn answer(number: u8, request: &[u8], text: &mut [u8], n: usize) -> usize {
     match number {
@@ -28,7 +30,25 @@ pub(crate) fn answer(number: u8, request: &[u8], text: &mut [u8], n: usize) -> u
             bank::part251::light_output_lm(line::u32_at(request, 1)),
         ),
         0x2D => light_distribution_type(request, text, n),
+        0x2F => text_bytes(request, text, n),
         _ => n,
+    }
+}
+
+// A text's bytes, behind whether its region is present.
+fn text_bytes(request: &[u8], text: &mut [u8], n: usize) -> usize {
+    let region = region_at(request, 1);
+    let bank = line::slice_at(request, 3);
+    let m = line::put_bool(text, n, records::part251::text_present(bank, region));
+    line::put_slice(text, m, records::part251::text_bytes(bank, region))
+}
+
+pub(crate) fn region_at(request: &[u8], at: usize) -> TextRegion
+    requires { ⌜ at ≤ 4000 ⌝ }
+{
+    TextRegion {
+        offset: line::u8_at(request, at),
+        len: line::u8_at(request, at + 1),
     }
 }
 

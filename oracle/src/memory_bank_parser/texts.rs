@@ -10,11 +10,12 @@ use crate::luminaire_write::{places, printable};
 use crate::part251::REGIONS;
 use crate::rng::Rng;
 
-pub type RegionCase = (u16, TextRegion, Vec<u8>);
+type RegionCase = (u16, TextRegion, Vec<u8>);
+pub type BankTextCase = (TextRegion, Vec<u8>);
 pub type TextCase = (u16, TextRegion, Limit, Vec<u8>);
 pub type EscapeCase = (Limit, Vec<u8>);
 
-pub fn region_cases(source: &mut Source) -> Vec<RegionCase> {
+fn region_cases(source: &mut Source) -> Vec<RegionCase> {
     let telling = vec![LUMINAIRE_COLOUR, LUMINAIRE_IDENTIFICATION, FREE_USE];
     let regions = source.scale.pick(REGIONS.to_vec(), telling);
     let empty = TextRegion { len: 0, ..LUMINAIRE_COLOUR };
@@ -66,7 +67,7 @@ fn texts_with_00(source: &mut Source, region: TextRegion, cases: &mut Vec<Region
     }
 }
 
-pub fn random_region(source: &mut Source) -> RegionCase {
+fn random_region(source: &mut Source) -> RegionCase {
     let rng = &mut source.rng;
     let region = match rng.below(2) {
         0 => rng.one_of(&REGIONS),
@@ -97,6 +98,22 @@ fn random_length(rng: &mut Rng) -> u8 {
         1 => 0,
         _ => rng.below(66) as u8,
     }
+}
+
+pub fn bank_text_cases(source: &mut Source) -> Vec<BankTextCase> {
+    let cases = region_cases(source);
+    cases.into_iter().map(|case| in_bank(&mut source.rng, case)).collect()
+}
+
+pub fn random_bank_text(source: &mut Source) -> BankTextCase {
+    let case = random_region(source);
+    in_bank(&mut source.rng, case)
+}
+
+/// The bank from its first byte on, up to as many before the start offset as a bank has.
+fn in_bank(rng: &mut Rng, (start, region, bytes): RegionCase) -> BankTextCase {
+    let before = rng.bytes(usize::from(start.min(256)));
+    (region, [before, bytes].concat())
 }
 
 pub fn text_cases(source: &mut Source) -> Vec<TextCase> {
