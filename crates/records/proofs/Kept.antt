@@ -1,4 +1,5 @@
--- The theorems on readings and configurations: no reading shows a mask, and a configuration keeps its byte.
+-- The theorems on readings, records and configurations: no reading shows a mask, each record follows its bank's map, and a
+-- configuration keeps its byte.
 -- Assumes nothing.
 use mathlib.Core.Path.{_≡_, refl, sym, ap}
 use mathlib.Core.Bool.{Bool, true, false, cond}
@@ -16,6 +17,7 @@ use Rattle.records.specs.declared.bus_unit.EmergencyGearType.{EmergencyG
 use Rattle.records.specs.declared.bus_unit.EmergencyGearType.the-variants.{A, B, C, D}
 use Rattle.records.specs.declared.bus_unit.BusUnitConfiguration.the-variants.{Defined, Reserved, ManufacturerSpecific}
 use Rattle.records.specs.Places.{readingOf, NoReadingShowsMask}
+use Rattle.records.specs.Records.{EveryRecordFollowsItsMap}
 use Rattle.records.specs.BusUnit.{gearByte, emergency, rawOf, configuration, fromByte, EveryByteKept}
 
 pub every-byte-kept : EveryByteKept
@@ -36,3 +38,6 @@ no-reading-shows-mask start bytes o w bs r v f e s =
     let read : some (readingOf w (classified w (number bs))) ≡ some r = rw f at e in
     let same : readingOf w (classified w (number bs)) ≡ r = Option·some-injective _ _ read in
     no-mask-shown w (number bs) v (told-number (valueOf (classified w (number bs))) (sym (ap (λ (q : BankReading). q .value) same)) s)
+
+pub every-record-follows-its-map : EveryRecordFollowsItsMap
+every-record-follows-its-map start bytes = record { energy = refl; gear = refl; source = refl; maintenance = refl }

@@ -1,12 +1,20 @@
 -- 01, "The records": each record is a list of places, by the tables of IEC 62386-102 and of DiiA 252 and 253.
 -- Assumes nothing.
-use mathlib.Core.List.{List}
+use mathlib.Core.Path.{_≡_}
+use mathlib.Core.Bool.{cond}
+use mathlib.Core.List.{List, [], _∷_, _++_, map}
 use Prim.Native.Nat.{ℕ, _+_}
+use lib.ListN.{drop}
 use Rattle.bus.specs.declared.OptionU8.{OptionU8}
 use Rattle.bus.specs.declared.OptionU64.{OptionU64}
 use Rattle.bus.specs.declared.ValueWidth.{ValueWidth}
 use Rattle.bus.specs.declared.ValueWidth.the-variants.{U8, U16, U24, U32, U48}
+use Rattle.bus.specs.declared.layout.BankField.{BankField}
+use Rattle.bus.specs.declared.layout.BankMap.{BankMap}
+use Rattle.bus.specs.declared.layout.BankMap.the-variants.{Energy, GearDiagnostics, SourceDiagnostics, Maintenance}
 use Rattle.bus.specs.Options.{optionU8, optionU64}
+use Rattle.bus.specs.Width.{signed}
+use Rattle.bus.specs.Maps.{fields}
 use Rattle.records.specs.declared.OptionI8.{OptionI8}
 use Rattle.records.specs.declared.attributes.OptionBankReading.{OptionBankReading}
 use Rattle.records.specs.declared.memory_bank_parser.ParsedMemoryIdentity.{ParsedMemoryIdentity}
@@ -124,3 +132,62 @@ module _ (start : ℕ) (bytes : List ℕ) where
         «reference_temperature_offset60» = reading 0x05 U8;
         «rated_starts_hundreds» = reading 0x06 U16;
       }
+
+-- what a member of a record says: a raw byte, a scale or a reading
+pub data Said : Type 0 where
+  aByte : OptionU8 → Said
+  aScale : OptionI8 → Said
+  aReading : OptionBankReading → Said
+
+-- the members of each record, in their order
+abbrev ofEnergyBank : ParsedEnergyBank → List Said
+ofEnergyBank r =
+    aByte (r .«bank_version»)
+    ∷ aScale (r .«energy_scale») ∷ aReading (r .energy) ∷ aScale (r .«power_scale») ∷ aReading (r .power) ∷ []
+
+abbrev ofCondition : ParsedCondition → List Said
+ofCondition c = aReading (c .flag) ∷ aReading (c .counter) ∷ []
+
+abbrev ofGearDiagnostics : ParsedGearDiagnostics → List Said
+ofGearDiagnostics r =
+    (aByte (r .«bank_version»)
+    ∷ aReading (r .«operating_time_s») ∷ aReading (r .«start_counter») ∷ aReading (r .«supply_voltage_decivolt»)
+    ∷ aReading (r .«supply_frequency_hz») ∷ aReading (r .«power_factor_centi») ∷ [])
+    ++ ofCondition (r .«overall_failure») ++ ofCondition (r .undervoltage) ++ ofCondition (r .overvoltage)
+    ++ ofCondition (r .«output_power_limitation») ++ ofCondition (r .«thermal_derating») ++ ofCondition (r .«thermal_shutdown»)
+    ++ (aReading (r .«temperature_offset60») ∷ aReading (r .«output_current_percent») ∷ [])
+
+abbrev ofSourceDiagnostics : ParsedSourceDiagnostics → List Said
+ofSourceDiagnostics r =
+    (aByte (r .«bank_version»)
+    ∷ aReading (r .«start_counter_resettable») ∷ aReading (r .«start_counter») ∷ aReading (r .«on_time_resettable_s»)
+    ∷ aReading (r .«on_time_s») ∷ aReading (r .«voltage_decivolt») ∷ aReading (r .«current_milliamp») ∷ [])
+    ++ ofCondition (r .«overall_failure») ++ ofCondition (r .«short_circuit») ++ ofCondition (r .«open_circuit»)
+    ++ ofCondition (r .«thermal_derating») ++ ofCondition (r .«thermal_shutdown»)
+    ++ (aReading (r .«temperature_offset60») ∷ [])
+
+abbrev ofMaintenance : ParsedLuminaireMaintenance → List Said
+ofMaintenance r =
+    aByte (r .«bank_version»)
+    ∷ aReading (r .«rated_life_kilohours») ∷ aReading (r .«reference_temperature_offset60»)
+    ∷ aReading (r .«rated_starts_hundreds») ∷ []
+
+module _ (start : ℕ) (bytes : List ℕ) where
+  -- what a field of a map says: a signed one is a scale
+  abbrev saidBy : BankField → Said
+  saidBy f =
+      cond (signed (f .width)) (aScale (scale start bytes (f .offset))) (aReading (reading start bytes (f .offset) (f .width)))
+
+  -- behind the head of a bank comes its version, a raw byte, and then what its map has
+  abbrev byMap : BankMap → List Said
+  byMap m = aByte (byte start bytes 0x03) ∷ map saidBy (drop 4 (fields m))
+
+-- Each record of banks 202 to 207 is, member by member, what the fields of its bank's map say.
+pub record FollowsMap (start : ℕ) (bytes : List ℕ) : Type 0 where
+  pub energy : ofEnergyBank (energyBank start bytes) ≡ byMap start bytes Energy
+  pub gear : ofGearDiagnostics (gearDiagnostics start bytes) ≡ byMap start bytes GearDiagnostics
+  pub source : ofSourceDiagnostics (sourceDiagnostics start bytes) ≡ byMap start bytes SourceDiagnostics
+  pub maintenance : ofMaintenance (luminaireMaintenance start bytes) ≡ byMap start bytes Maintenance
+
+abbrev pub EveryRecordFollowsItsMap : Type 0
+EveryRecordFollowsItsMap = (start : ℕ) (bytes : List ℕ) → FollowsMap start bytes
