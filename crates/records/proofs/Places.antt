@@ -1,12 +1,12 @@
--- Laws of a place: whether its bytes are all present, and what they are.
+-- Laws of a place: whether its bytes are all present, and what they are; and its theorems.
 -- Assumes nothing.
 use mathlib.Core.Path.{_≡_, refl, sym, ap, _∙_}
 use mathlib.Core.Bool.{Bool, true, false, cond}
 use mathlib.Core.List.{List, [], _∷_}
-use mathlib.Core.Option.{none, some, Option·map}
+use mathlib.Core.Option.{none, some, Option·map, Option·some-injective}
 use Prim.Native.Nat.{ℕ, _+_, _-_, _≤_, _<_, zero, suc, min, zero-le}
-use native.Mathlib.Numerals.{add-one}
 use native.Mathlib.Nat.{sub-zero}
+use native.Mathlib.Numerals.{add-one}
 use native.Mathlib.Omega.{arith}
 use borrow.Author.Tests.{le-leb, lt-leb, leb-true}
 use lib.Dec.{eqb, leb}
@@ -15,10 +15,13 @@ use lib.Seq.{drop-cons, take-take, drop-drop}
 use Rattle.bus.specs.declared.ValueWidth.{ValueWidth}
 use Rattle.bus.specs.Number.{number}
 use Rattle.bus.specs.Width.{bytesOf}
-use Rattle.bus.specs.Value.{classified, readAt}
+use Rattle.bus.specs.Value.{classified, readAt, valueOf}
+use Rattle.bus.proofs.Options.{told-number}
 use Rattle.bus.proofs.Tests.{by-test, no-yes}
+use Rattle.bus.proofs.Value.{no-mask-shown}
 use Rattle.bus.proofs.Lists.{no-element}
-use Rattle.records.specs.Places.{fieldAt, isThere, allFF, readingOf, readingAt, PartReadsAsBank}
+use Rattle.records.specs.declared.attributes.BankReading.{BankReading}
+use Rattle.records.specs.Places.{fieldAt, isThere, allFF, readingOf, readingAt, PartReadsAsBank, NoReadingShowsMask}
 
 module _ (start : ℕ) (bytes : List ℕ) (o n : ℕ) where
   pub before : o < start → fieldAt start bytes o n ≡ none
@@ -111,3 +114,9 @@ part-reads-as-bank bank start m o n bs some-bytes e =
 pub there-if : (b : Bool) (bs : List ℕ) → b ≡ isThere (cond b (some bs) none)
 there-if true bs = refl
 there-if false bs = refl
+
+pub no-reading-shows-mask : NoReadingShowsMask
+no-reading-shows-mask start bytes o w bs r v f e s =
+    let read : some (readingOf w (classified w (number bs))) ≡ some r = rw f at e in
+    let same : readingOf w (classified w (number bs)) ≡ r = Option·some-injective _ _ read in
+    no-mask-shown w (number bs) v (told-number (valueOf (classified w (number bs))) (sym (ap (λ (q : BankReading). q .value) same)) s)

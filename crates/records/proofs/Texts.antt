@@ -8,10 +8,10 @@ use native.Mathlib.Nat.{not-suc-le-zero, sub-zero, le-refl}
 use native.Mathlib.Numerals.{add-one}
 use native.Mathlib.Omega.{arith}
 use borrow.Author.Tests.{le-leb, lt-leb, leb-true, leb-false, ne-eqb, eqb-false}
+use borrow.Rule.Slice.PartMut.{putMid}
 use lib.Dec.{eqb, leb}
 use lib.ListN.{length, getD, take, drop, length-take, length-drop, length-append, take-append-drop, drop-of-length-le}
 use lib.Seq.{take-suc, drop-cons, append-snoc, take-all, take-take, drop-append-le, take-at, drop-at, drop-drop, length-take-le}
-use borrow.Rule.Slice.PartMut.{putMid}
 use Rattle.bus.specs.Value.{laidInto}
 use Rattle.bus.proofs.Tests.{by-test}
 use Rattle.bus.proofs.Lists.{laid-whole}

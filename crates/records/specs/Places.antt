@@ -6,8 +6,8 @@ use mathlib.Core.List.{List, [], _∷_}
 use mathlib.Core.Option.{Option, none, some, Option·map}
 use Prim.Native.Nat.{ℕ, _-_, _≤_}
 use lib.Dec.{eqb, leb}
-use lib.ListN.{take, drop}
 use lib.IntN.{ℤ, pos, negℤ}
+use lib.ListN.{take, drop}
 use lib.Signed.{leZ}
 use Rattle.bus.specs.declared.OptionU64.{OptionU64}
 use Rattle.bus.specs.declared.ValueWidth.{ValueWidth}

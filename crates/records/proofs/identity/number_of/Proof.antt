@@ -6,8 +6,8 @@ use Prim.Native.Nat.{ℕ, _+_, _*_, _-_, _^_, _≤_, _<_}
 use native.Mathlib.Nat.{zero-add}
 use native.Mathlib.Omega.{arith}
 use lib.ListN.{length, getD, take}
-use lib.Pow.{pow-mono}
 use lib.Seq.{take-all}
+use lib.Pow.{pow-mono}
 use Rattle.bus.specs.Number as spec
 use Rattle.bus.proofs.Number.{pow-byte, number-next}
 use Rattle.records.proofs.identity.number_of.Statement.{statement}

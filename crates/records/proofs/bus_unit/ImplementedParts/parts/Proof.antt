@@ -6,8 +6,8 @@ use mathlib.Core.Logic.{⊎-elim}
 use mathlib.Core.List.{List}
 use Prim.Native.Nat.{ℕ, _-_, _≤_}
 use native.Mathlib.Omega.{arith}
-use borrow.Author.Needs.{needs}
 use borrow.Author.Tests.{not-true, not-false}
+use borrow.Author.Needs.{needs}
 use lib.ListN.{length}
 use Rattle.bus.specs.Value.{laidInto}
 use Rattle.bus.proofs.Lists.{length-laid}
