@@ -10,11 +10,14 @@ use Rattle.records.specs.declared.memory_bank_parser.Pushed.{Pushed}
 use Rattle.records.specs.Utf8.{sequenceLen}
 use Rattle.records.specs.Text.{piece}
 
--- how many bytes of a text were taken, and how many they became in a slice: 0 where they do not fit
-abbrev pub pushed : List ℕ → List ℕ → Pushed
-pushed bytes out =
-    record { taken = max 1 (sequenceLen bytes); len = cond (leb (length (piece bytes)) (length out)) (length (piece bytes)) 0 }
+-- how many bytes of a piece enter a slice: all, or none
+abbrev pub pushedLen : List ℕ → List ℕ → ℕ
+pushedLen p out = cond (leb (length p) (length out)) (length p) 0
 
--- what a piece leaves of a slice: all of it enters, or nothing
+-- and what the slice then holds
 abbrev pub afterPush : List ℕ → List ℕ → List ℕ
 afterPush p out = cond (leb (length p) (length out)) (laidInto p out) out
+
+-- how many bytes of a text were taken, and how many they became in a slice
+abbrev pub pushed : List ℕ → List ℕ → Pushed
+pushed bytes out = record { taken = max 1 (sequenceLen bytes); len = pushedLen (piece bytes) out }

@@ -24,17 +24,15 @@ use bus::ValueWidth;
 use bus::read_value;
 use bus::signed_byte;
 ghost use mathlib.Core.Path.{_≡_};
-ghost use mathlib.Core.Bool.{cond};
 ghost use Prim.Native.Nat.{_+_, _-_, _≤_, _<_};
 ghost use lib.ListN.{length};
-ghost use lib.Dec.{leb};
 ghost use Rattle.bus.specs.Options.{optionU8, optionU64};
 ghost use Rattle.bus.specs.Value.{notImplemented, laidInto};
 ghost use Rattle.records.specs.Options.{optionI8, optionBankReading};
 ghost use Rattle.records.specs.Places.{fieldAt, isThere, byteAt, numberAt, readingOf, readingAt, isScale, scaleOf, scaleAt};
 ghost use Rattle.records.specs.Records.{bank0Identity, bank1Profile, bank0BusUnit, energyBank, condition, gearDiagnostics, sourceDiagnostics, luminaireMaintenance};
 ghost use Rattle.records.specs.Text.{hexDigit, escape, piece, escaped, shownText, textRegion};
-ghost use Rattle.records.specs.Steps.{pushed, afterPush};
+ghost use Rattle.records.specs.Steps.{pushedLen, afterPush, pushed};
 
 pub struct ParsedMemoryIdentity {
     pub last_memory_bank: OptionU8,
@@ -240,7 +238,7 @@ pub fn text_region(
     escape_into_bounded(&raw[..cut], limit)
 }
 
-// What a text becomes, byte by byte.
+// A text as it is shown within a limit: what is no well-formed sequence becomes an escape.
 pub fn escape_into_bounded(raw: &[u8], limit: TextLimit) -> FixedText
     ensures { λ r. ⌜ r ≡ shownText limit (now (raw .entry)) ⌝ }
 {
@@ -255,7 +253,7 @@ pub fn escape_into_bounded(raw: &[u8], limit: TextLimit) -> FixedText
     }
 }
 
-// Stores what a text becomes, as far as it fits, and answers how many bytes that are.
+// Stores as much of it as fits, and answers how many bytes that are.
 fn escape_into(raw: &[u8], out: &mut [u8]) -> usize
     ensures count { λ r. ⌜ r ≡ length (escaped (length (now (out .entry))) (now (raw .entry))) ⌝ }
     ensures stored { λ _. ⌜ now (out .exit) ≡ laidInto (escaped (length (now (out .entry))) (now (raw .entry))) (now (out .entry)) ⌝ }
@@ -297,7 +295,7 @@ fn push_next(rest: &[u8], out: &mut [u8]) -> Pushed
 
 // Stores a piece at the start of out, and answers its length; nothing of one that does not fit, and 0.
 fn push(piece: &[u8], out: &mut [u8]) -> usize
-    ensures answer { λ r. ⌜ r ≡ cond (leb (length (now (piece .entry))) (length (now (out .entry)))) (length (now (piece .entry))) 0 ⌝ }
+    ensures answer { λ r. ⌜ r ≡ pushedLen (now (piece .entry)) (now (out .entry)) ⌝ }
     ensures stored { λ _. ⌜ now (out .exit) ≡ afterPush (now (piece .entry)) (now (out .entry)) ⌝ }
 {
     if out.len() < piece.len() {
