@@ -176,11 +176,12 @@ module _ (start : ℕ) (bytes : List ℕ) where
   -- what a field of a map says: a signed one is a scale
   abbrev saidBy : BankField → Said
   saidBy f =
-      cond (signed (f .width)) (aScale (scale start bytes (f .offset))) (aReading (reading start bytes (f .offset) (f .width)))
+      cond (signed (f .width)) (aScale (optionI8 (scaleAt start bytes (f .offset))))
+      (aReading (optionBankReading (readingAt start bytes (f .offset) (f .width))))
 
   -- behind the head of a bank comes its version, a raw byte, and then what its map has
   abbrev byMap : BankMap → List Said
-  byMap m = aByte (byte start bytes 0x03) ∷ map saidBy (drop 4 (fields m))
+  byMap m = aByte (optionU8 (byteAt start bytes 0x03)) ∷ map saidBy (drop 4 (fields m))
 
 -- Each record of banks 202 to 207 is, member by member, what the fields of its bank's map say.
 pub record FollowsMap (start : ℕ) (bytes : List ℕ) : Type 0 where
