@@ -1,23 +1,27 @@
--- Laws of an identity: the parts of its window, and the window of bank 0.
+-- Laws of an identity: the parts of its window, the window of bank 0, and its theorem.
 -- Assumes nothing.
-use mathlib.Core.Path.{_≡_, refl, _∙_}
+use mathlib.Core.Path.{_≡_, refl, _∙_, sym, ap}
 use mathlib.Core.Bool.{cond}
 use mathlib.Core.List.{List, [], _∷_}
-use mathlib.Core.Option.{some}
+use mathlib.Core.Option.{some, Option, none, bind, Option·some-injective, Option·map}
 use Prim.Native.Nat.{ℕ, _≤_, _<_}
 use native.Mathlib.Nat.{not-suc-le-zero}
 use native.Mathlib.Omega.{arith}
-use borrow.Author.Tests.{eq-eqb, lt-ltb, le-ltb, lt-leb, le-leb}
-use lib.Dec.{ltb}
+use borrow.Author.Tests.{eq-eqb, lt-ltb, le-ltb, lt-leb, le-leb, leb-true, leb-false, ltb-true, ltb-false}
+use lib.Dec.{ltb, eqb, leb}
 use lib.ListN.{length, getD, take, drop}
 use lib.Seq.{drop-cons}
 use Rattle.bus.specs.Number.{number}
 use Rattle.bus.specs.Value.{bytesAt}
+use Rattle.bus.specs.Options.{optionU8, optionU64}
+use Rattle.bus.proofs.Lists.{no-element}
+use Rattle.bus.proofs.Tests.{by-test}
 use Rattle.records.specs.declared.identity.IdentityRead.{IdentityRead}
-use Rattle.records.specs.declared.identity.IdentityRead.the-variants.{Unread}
-use Rattle.records.specs.Places.{unlessFF}
-use Rattle.records.specs.Identity.{identityOf, knownIf, ofWindow, ofPart, ofBank0}
-use Rattle.records.proofs.Places.{whole}
+use Rattle.records.specs.declared.identity.IdentityRead.the-variants.{Unread, Known}
+use Rattle.records.specs.declared.identity.DeviceIdentity.{DeviceIdentity}
+use Rattle.records.specs.Places.{unlessFF, fieldAt, numberAt, allFF}
+use Rattle.records.specs.Identity.{identityOf, knownIf, ofWindow, ofPart, ofBank0, identity, EveryIdentityAsRecorded}
+use Rattle.records.proofs.Places.{whole, part-reads-as-bank}
 
 -- a window says what its three parts say
 pub in-window : {gtin number index : List ℕ} (window : List ℕ) → length window ≡ 24
@@ -56,3 +60,76 @@ module _ (bank : List ℕ) where
 
   pub its-window : 26 ≤ getD bank 0 0 → 27 ≤ length bank → ofBank0 bank ≡ ofWindow (take 24 (drop 3 bank))
   its-window k l = by-first (omega arith) ∙ rw (le-ltb (getD bank 0 0) 26 k, le-leb 27 (length bank) l)
+
+-- ---- a known identity is the one in the record
+
+-- the identity that is known, if any
+abbrev known : IdentityRead → Option DeviceIdentity
+known Unread = none
+known IdentityRead.Unprovable = none
+known (Known d) = some d
+
+known-if : (o : Option DeviceIdentity) → known (knownIf o) ≡ o
+known-if none = refl
+known-if (some d) = refl
+
+-- all three parts of it are there
+all-there : (g n i : Option ℕ) (d : DeviceIdentity) → identityOf g n i ≡ some d → (g ≡ some (d .gtin)) × (n ≡ some (d .«identification_number»)) × (i ≡ some (d .«logical_gear_index»))
+unfolding bind
+all-there none n i d e = no-element e
+all-there (some g) none i d e = no-element e
+all-there (some g) (some n) none d e = no-element e
+all-there (some g) (some n) (some i) d e =
+    let same : identity g n i ≡ d = Option·some-injective _ _ e in
+    (ap (λ (x : DeviceIdentity). some (x .gtin)) same, ap (λ (x : DeviceIdentity). some (x .«identification_number»)) same, ap (λ (x : DeviceIdentity). some (x .«logical_gear_index»)) same)
+
+-- what the window says, it says of bank 0
+known-in-window : (bank : List ℕ) (d : DeviceIdentity) → ofBank0 bank ≡ Known d → ofWindow (take 24 (drop 3 bank)) ≡ Known d
+known-in-window bank d e =
+    by-test (leb 1 (length bank))
+    (λ s.
+    let h = leb-true 1 (length bank) s in
+    by-test (ltb (getD bank 0 0) 26)
+    (λ t. no-element (ap known (sym (too-short bank h (ltb-true (getD bank 0 0) 26 t)) ∙ e)))
+    (λ t.
+    let k = ltb-false (getD bank 0 0) 26 t in
+    by-test (leb 27 (length bank))
+    (λ l. sym (its-window bank k (leb-true 27 (length bank) l)) ∙ e)
+    (λ l. no-element (ap known (sym (cut-short bank h k (leb-false 27 (length bank) l)) ∙ e)))))
+    (λ s.
+    let empty : length bank ≡ 0 = omega (arith, leb-false 1 (length bank) s) in
+    no-element (ap known (sym (no-bytes bank empty) ∙ e)))
+
+-- a number that is there, in a part of bank 0 and in all of it
+module _ (bank : List ℕ) (o n : ℕ) (v : ℕ) (some-bytes : 1 ≤ n) where
+  number-in-bank : numberAt 3 (take 24 (drop 3 bank)) o n ≡ some v → (bs : List ℕ) × ((fieldAt 0 bank o n ≡ some bs) × (unlessFF (some bs) ≡ some v))
+  number-in-bank e = by (fieldAt 3 (take 24 (drop 3 bank)) o n) refl
+    where
+      by : (f : Option (List ℕ)) → fieldAt 3 (take 24 (drop 3 bank)) o n ≡ f → (bs : List ℕ) × ((fieldAt 0 bank o n ≡ some bs) × (unlessFF (some bs) ≡ some v))
+      by none f = no-element (ap unlessFF (sym f) ∙ e)
+      by (some bs) f = (bs, (part-reads-as-bank bank 3 24 o n bs some-bytes f, ap unlessFF (sym f) ∙ e))
+
+-- its number is that of its bytes
+number-is : (bs : List ℕ) {v : ℕ} → unlessFF (some bs) ≡ some v → some (number bs) ≡ some v
+number-is bs e =
+    by-test (allFF bs)
+    (λ t. no-element (rw t at e))
+    (λ t. rw t at e)
+
+pub every-identity-as-recorded : EveryIdentityAsRecorded
+every-identity-as-recorded bank d e =
+    let window = take 24 (drop 3 bank) in
+    let k = known-in-window bank d e in
+    by-test (eqb (length window) 24)
+    (λ t.
+    let its : knownIf (identityOf (numberAt 3 window 3 6) (numberAt 3 window 11 8) (numberAt 3 window 26 1)) ≡ Known d = rw t at k in
+    let parts = all-there (numberAt 3 window 3 6) (numberAt 3 window 11 8) (numberAt 3 window 26 1) d (sym (known-if _) ∙ ap known its) in
+    let g = number-in-bank bank 3 6 (d .gtin) (omega arith) (parts .0) in
+    let n = number-in-bank bank 11 8 (d .«identification_number») (omega arith) (parts .1) in
+    let i = number-in-bank bank 26 1 (d .«logical_gear_index») (omega arith) (parts .2) in
+    record {
+      gtin = ap (λ (f : Option (List ℕ)). optionU64 (unlessFF f)) (g .1 .0) ∙ ap optionU64 (g .1 .1);
+      number = ap (λ (f : Option (List ℕ)). optionU64 (unlessFF f)) (n .1 .0) ∙ ap optionU64 (n .1 .1);
+      index = ap (λ (f : Option (List ℕ)). optionU8 (Option·map number f)) (i .1 .0) ∙ ap optionU8 (number-is (i .0) (i .1 .1));
+    })
+    (λ t. no-element (ap known (rw t at k)))
