@@ -95,20 +95,46 @@ part-of-part (suc m) k n [] h = refl
 part-of-part (suc m) zero n (x ∷ xs) h = take-take n (suc m) (x ∷ xs) (omega arith)
 part-of-part (suc m) (suc k) n (x ∷ xs) h = part-of-part m k n xs (omega arith)
 
+-- the bytes of a field that lies in a part of a bank
+module _ (bank : List ℕ) (start m o n : ℕ) where
+  abbrev part : List ℕ
+  part = take m (drop start bank)
+
+  long : length part ≡ min m (length bank - start)
+  long = length-take m (drop start bank) ∙ ap (min m) (length-drop start bank)
+
+  same-bytes : start ≤ o → o - start + n ≤ m → take n (drop (o - start) part) ≡ take n (drop (o - 0) bank)
+  same-bytes h k =
+      let back : start + (o - start) ≡ o = omega (arith, h) in
+      part-of-part m (o - start) n (drop start bank) k ∙ rw (drop-drop (o - start) start bank, back, sub-zero)
+
+  of-bank : 1 ≤ n → {bs : List ℕ} → fieldAt start part o n ≡ some bs → fieldAt 0 bank o n ≡ some bs
+  of-bank some-bytes e =
+      by-test (isThere (fieldAt start part o n))
+      (λ t.
+      let p = is-there start part o n t in
+      let bound = long in
+      whole 0 bank o n zero-le (omega (arith, p .within, p .from, some-bytes))
+      ∙ ap some (sym (same-bytes (p .from) (omega (arith, p .within))))
+      ∙ sym (p .is)
+      ∙ e)
+      (λ t. no-element (sym (not-there start part o n t) ∙ e))
+
+  present : 1 ≤ n → {bs : List ℕ} → start ≤ o → o + n ≤ start + m → fieldAt 0 bank o n ≡ some bs → fieldAt start part o n ≡ some bs
+  present some-bytes h k e =
+      by-test (isThere (fieldAt 0 bank o n))
+      (λ t.
+      let p = is-there 0 bank o n t in
+      let bound = long in
+      whole start part o n h (omega (arith, p .within, some-bytes))
+      ∙ ap some (same-bytes h (omega arith))
+      ∙ sym (p .is)
+      ∙ e)
+      (λ t. no-element (sym (not-there 0 bank o n t) ∙ e))
+
 pub part-reads-as-bank : PartReadsAsBank
-part-reads-as-bank bank start m o n bs some-bytes e =
-    let part = take m (drop start bank) in
-    by-test (isThere (fieldAt start part o n))
-    (λ t.
-    let p = is-there start part o n t in
-    let long : length part ≡ min m (length bank - start) = length-take m (drop start bank) ∙ ap (min m) (length-drop start bank) in
-    let back : start + (o - start) ≡ o = omega (arith, p .from) in
-    let same : take n (drop (o - start) part) ≡ take n (drop (o - 0) bank) =
-    part-of-part m (o - start) n (drop start bank) (omega (arith, p .within))
-    ∙ rw (drop-drop (o - start) start bank, back, sub-zero)
-    in
-    whole 0 bank o n zero-le (omega (arith, p .within, p .from, some-bytes)) ∙ ap some (sym same) ∙ sym (p .is) ∙ e)
-    (λ t. no-element (sym (not-there start part o n t) ∙ e))
+part-reads-as-bank bank start m o n some-bytes =
+    record { of-bank = of-bank bank start m o n some-bytes; present = present bank start m o n some-bytes }
 
 -- what is there under a test is there where the test holds
 pub there-if : (b : Bool) (bs : List ℕ) → b ≡ isThere (cond b (some bs) none)

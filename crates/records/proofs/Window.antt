@@ -107,7 +107,7 @@ module _ (bank : List ℕ) (o n : ℕ) (v : ℕ) (some-bytes : 1 ≤ n) where
     where
       by : (f : Option (List ℕ)) → fieldAt 3 (take 24 (drop 3 bank)) o n ≡ f → (bs : List ℕ) × ((fieldAt 0 bank o n ≡ some bs) × (unlessFF (some bs) ≡ some v))
       by none f = no-element (ap unlessFF (sym f) ∙ e)
-      by (some bs) f = (bs, (part-reads-as-bank bank 3 24 o n bs some-bytes f, ap unlessFF (sym f) ∙ e))
+      by (some bs) f = (bs, (part-reads-as-bank bank 3 24 o n some-bytes .of-bank f, ap unlessFF (sym f) ∙ e))
 
 -- its number is that of its bytes
 number-is : (bs : List ℕ) {v : ℕ} → unlessFF (some bs) ≡ some v → some (number bs) ≡ some v

@@ -4,7 +4,7 @@ use mathlib.Core.Path.{_≡_}
 use mathlib.Core.Bool.{Bool, true, false, cond, _&&_}
 use mathlib.Core.List.{List, [], _∷_}
 use mathlib.Core.Option.{Option, none, some, Option·map}
-use Prim.Native.Nat.{ℕ, _-_, _≤_}
+use Prim.Native.Nat.{ℕ, _+_, _-_, _≤_}
 use lib.Dec.{eqb, leb}
 use lib.IntN.{ℤ, pos, negℤ}
 use lib.ListN.{take, drop}
@@ -71,11 +71,16 @@ scaleIn (some b) = scaleOf b
 abbrev pub scaleAt : ℕ → List ℕ → ℕ → Option ℤ
 scaleAt start bytes o = scaleIn (byteAt start bytes o)
 
--- A field that is present in a part of a bank, from the start offset on, is the field of the bank (a field has a byte).
+-- A part of a bank, from the start offset on, has the bank's fields: one that is present in it is that of the bank, and
+-- one of the bank that lies in it is present. (A field has a byte.)
+pub record PartOf (bank : List ℕ) (start m o n : ℕ) : Type 0 where
+  pub of-bank : {bs : List ℕ} → fieldAt start (take m (drop start bank)) o n ≡ some bs → fieldAt 0 bank o n ≡ some bs
+  pub present :
+      {bs : List ℕ} → start ≤ o → o + n ≤ start + m → fieldAt 0 bank o n ≡ some bs →
+      fieldAt start (take m (drop start bank)) o n ≡ some bs
+
 abbrev pub PartReadsAsBank : Type 0
-PartReadsAsBank =
-    (bank : List ℕ) (start m o n : ℕ) (bs : List ℕ) →
-    1 ≤ n → fieldAt start (take m (drop start bank)) o n ≡ some bs → fieldAt 0 bank o n ≡ some bs
+PartReadsAsBank = (bank : List ℕ) (start m o n : ℕ) → 1 ≤ n → PartOf bank start m o n
 
 -- No reading shows a mask: the value that it has is the number of its own bytes, and neither mask of its width.
 abbrev pub NoReadingShowsMask : Type 0
