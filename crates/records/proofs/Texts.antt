@@ -22,7 +22,7 @@ use Rattle.records.specs.declared.fixed_text.TextLimit.the-variants.{Byt
 use Rattle.records.specs.declared.fixed_text.FixedText.{FixedText}
 use Rattle.records.specs.declared.memory_bank_parser.Pushed.{Pushed}
 use Rattle.records.specs.Utf8.{sequenceLen}
-use Rattle.records.specs.Text.{untilZero, escape, piece, piecesBehind, pieces, fitting, escaped, limitOf, zeros, shownText, WithinLimit, PrintableReadsAsItself, ZeroReadsEmpty}
+use Rattle.records.specs.Text.{untilZero, escape, piece, piecesBehind, pieces, fitting, escaped, limitOf, zeros, asText, shownText, WithinLimit, PrintableReadsAsItself, ZeroReadsEmpty}
 use Rattle.records.specs.Steps.{pushed, afterPush}
 use Rattle.records.proofs.Sequences.{fits, one-byte}
 
@@ -310,7 +310,7 @@ shown-as-it-is limit (b ∷ bs) e h =
 pub printable-reads-as-itself : PrintableReadsAsItself
 printable-reads-as-itself limit text behind e h z =
     let cut : untilZero (text ++ behind) ≡ text = before-zero text behind e ∙ ap (λ (r : List ℕ). text ++ r) z ∙ append-nil text in
-    ap (escaped limit) cut ∙ shown-as-it-is limit text e h
+    ap (asText limit) (ap (escaped (limitOf limit)) cut ∙ shown-as-it-is (limitOf limit) text e h)
 
 pub zero-reads-empty : ZeroReadsEmpty
 unfolding untilZero piecesBehind fitting

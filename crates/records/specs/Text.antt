@@ -61,10 +61,12 @@ abbrev pub zeros : List ℕ
 zeros = replicate 64 0
 
 -- "`FixedText<N>` becomes a 64-byte array with a length and its limit"
+abbrev pub asText : TextLimit → List ℕ → FixedText
+asText limit text = record { present = true; limit = limit; len = length text; bytes = laidInto text zeros }
+
+-- a text as it is shown within its limit
 abbrev pub shownText : TextLimit → List ℕ → FixedText
-shownText limit bytes =
-    let text = escaped (limitOf limit) bytes in
-    record { present = true; limit = limit; len = length text; bytes = laidInto text zeros }
+shownText limit bytes = asText limit (escaped (limitOf limit) bytes)
 
 -- "an absent text is a yes or no beside its array"
 abbrev pub absentText : TextLimit → FixedText
@@ -82,17 +84,14 @@ textBytes bank t = beforeZero (bytesAt (t .offset) (t .len) bank)
 abbrev pub textPresent : List ℕ → TextRegion → Bool
 textPresent bank t = isThere (bytesAt (t .offset) (t .len) bank)
 
-abbrev textIn : TextLimit → Option (List ℕ) → FixedText
+-- what is shown of a region that may be lacking
+abbrev pub textIn : TextLimit → Option (List ℕ) → FixedText
 textIn limit none = absentText limit
 textIn limit (some region) = shownText limit (untilZero region)
 
 -- a text field as it is shown, from given bytes and their start offset
 abbrev pub textRegion : ℕ → List ℕ → TextRegion → TextLimit → FixedText
 textRegion start bytes t limit = textIn limit (fieldAt start bytes (t .offset) (t .len))
-
--- what is shown of a region
-abbrev pub shownOf : ℕ → List ℕ → List ℕ
-shownOf limit region = escaped limit (untilZero region)
 
 -- A text is never longer than its limit.
 abbrev pub WithinLimit : Type 0
@@ -101,9 +100,10 @@ WithinLimit = (limit : ℕ) (bytes : List ℕ) → length (escaped limit bytes) 
 -- A text of bytes 20 to 7E hex within the limit reads as itself, with a 00 behind it or with nothing.
 abbrev pub PrintableReadsAsItself : Type 0
 PrintableReadsAsItself =
-    (limit : ℕ) (text behind : List ℕ) →
-    printable text ≡ true → length text ≤ limit → untilZero behind ≡ [] → shownOf limit (text ++ behind) ≡ text
+    (limit : TextLimit) (text behind : List ℕ) →
+    printable text ≡ true → length text ≤ limitOf limit → untilZero behind ≡ [] →
+    textIn limit (some (text ++ behind)) ≡ asText limit text
 
 -- A text whose first byte is 00 reads empty.
 abbrev pub ZeroReadsEmpty : Type 0
-ZeroReadsEmpty = (limit : ℕ) (behind : List ℕ) → shownOf limit (0 ∷ behind) ≡ []
+ZeroReadsEmpty = (limit : TextLimit) (behind : List ℕ) → textIn limit (some (0 ∷ behind)) ≡ asText limit []
