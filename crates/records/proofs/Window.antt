@@ -4,13 +4,13 @@ use mathlib.Core.Path.{_≡_, refl, _∙_, sym, ap}
 use mathlib.Core.Bool.{cond}
 use mathlib.Core.List.{List, [], _∷_}
 use mathlib.Core.Option.{some, Option, none, bind, Option·some-injective, Option·map}
-use Prim.Native.Nat.{ℕ, _≤_, _<_}
+use Prim.Native.Nat.{ℕ, _≤_, _<_, _+_, zero-le}
 use native.Mathlib.Nat.{not-suc-le-zero}
 use native.Mathlib.Omega.{arith}
 use borrow.Author.Tests.{eq-eqb, lt-ltb, le-ltb, lt-leb, le-leb, leb-true, leb-false, ltb-true, ltb-false}
 use lib.Dec.{ltb, eqb, leb}
-use lib.ListN.{length, getD, take, drop}
-use lib.Seq.{drop-cons}
+use lib.ListN.{length, getD, take, drop, length-drop}
+use lib.Seq.{drop-cons, length-take-le}
 use Rattle.bus.specs.Number.{number}
 use Rattle.bus.specs.Value.{bytesAt}
 use Rattle.bus.specs.Options.{optionU8, optionU64}
@@ -20,8 +20,9 @@ use Rattle.records.specs.declared.identity.IdentityRead.{IdentityRead}
 use Rattle.records.specs.declared.identity.IdentityRead.the-variants.{Unread, Known}
 use Rattle.records.specs.declared.identity.DeviceIdentity.{DeviceIdentity}
 use Rattle.records.specs.Places.{unlessFF, fieldAt, numberAt, allFF}
-use Rattle.records.specs.Identity.{identityOf, knownIf, ofWindow, ofPart, ofBank0, identity, EveryIdentityAsRecorded}
-use Rattle.records.proofs.Places.{whole, part-reads-as-bank}
+use Rattle.records.specs.Identity.{identityOf, knownIf, ofWindow, ofPart, ofBank0, identity, AsRecorded, EveryIdentityKnownExactly}
+use Rattle.records.specs.Records.{bank0Identity}
+use Rattle.records.proofs.Places.{whole, part-reads-as-bank, behind}
 
 -- a window says what its three parts say
 pub in-window : {gtin number index : List ℕ} (window : List ℕ) → length window ≡ 24
@@ -116,8 +117,8 @@ number-is bs e =
     (λ t. no-element (rw t at e))
     (λ t. rw t at e)
 
-pub every-identity-as-recorded : EveryIdentityAsRecorded
-every-identity-as-recorded bank d e =
+as-recorded : (bank : List ℕ) (d : DeviceIdentity) → ofBank0 bank ≡ Known d → AsRecorded d (bank0Identity 0 bank)
+as-recorded bank d e =
     let window = take 24 (drop 3 bank) in
     let k = known-in-window bank d e in
     by-test (eqb (length window) 24)
@@ -133,3 +134,32 @@ every-identity-as-recorded bank d e =
       index = ap (λ (f : Option (List ℕ)). optionU8 (Option·map number f)) (i .1 .0) ∙ ap optionU8 (number-is (i .0) (i .1 .1));
     })
     (λ t. no-element (ap known (rw t at k)))
+
+-- a part of an identity that is there, is in the window
+there-to : (bank : List ℕ) {v : ℕ} → numberAt 0 bank 26 1 ≡ some v → 27 ≤ length bank
+there-to bank e =
+    by-test (leb 27 (length bank))
+    (λ t. leb-true 27 (length bank) t)
+    (λ t. no-element (ap unlessFF (sym (behind 0 bank 26 1 zero-le (leb-false 27 (length bank) t))) ∙ e))
+
+in-window-as-in-bank : (bank : List ℕ) (o n : ℕ) → 27 ≤ length bank → 3 ≤ o → o + n ≤ 27 → 1 ≤ n → numberAt 3 (take 24 (drop 3 bank)) o n ≡ numberAt 0 bank o n
+in-window-as-in-bank bank o n l h k some-bytes =
+    let f = whole 0 bank o n zero-le (omega arith) in
+    ap unlessFF (part-reads-as-bank bank 3 24 o n some-bytes .present h k f ∙ sym f)
+
+known-if-there : (bank : List ℕ) {g n i : ℕ} → 26 ≤ getD bank 0 0 → numberAt 0 bank 3 6 ≡ some g → numberAt 0 bank 11 8 ≡ some n → numberAt 0 bank 26 1 ≡ some i → ofBank0 bank ≡ Known (identity g n i)
+unfolding bind
+known-if-there bank h g n i =
+    let l = there-to bank i in
+    let w = take 24 (drop 3 bank) in
+    let long : length w ≡ 24 = length-take-le 24 (drop 3 bank) (rw (length-drop 3 bank) (omega arith)) in
+    its-window bank h l
+    ∙ rw (
+      eq-eqb (length w) 24 long,
+      in-window-as-in-bank bank 3 6 l (omega arith) (omega arith) (omega arith) ∙ g,
+      in-window-as-in-bank bank 11 8 l (omega arith) (omega arith) (omega arith) ∙ n,
+      in-window-as-in-bank bank 26 1 l (omega arith) (omega arith) (omega arith) ∙ i,
+    )
+
+pub every-identity-known-exactly : EveryIdentityKnownExactly
+every-identity-known-exactly bank = record { as-recorded = λ {d} e. as-recorded bank d e; known = known-if-there bank }

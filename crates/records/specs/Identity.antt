@@ -4,9 +4,9 @@ use mathlib.Core.Path.{_≡_}
 use mathlib.Core.Bool.{cond}
 use mathlib.Core.List.{List, [], _∷_}
 use mathlib.Core.Option.{Option, none, some, Option·map, bind}
-use Prim.Native.Nat.{ℕ, _+_, _-_}
+use Prim.Native.Nat.{ℕ, _+_, _-_, _≤_}
 use lib.Dec.{eqb, ltb}
-use lib.ListN.{length}
+use lib.ListN.{length, getD}
 use Rattle.bus.specs.Options.{optionU8, optionU64}
 use Rattle.bus.specs.Value.{bytesAt}
 use Rattle.records.specs.declared.identity.DeviceIdentity.{DeviceIdentity}
@@ -61,5 +61,12 @@ pub record AsRecorded (d : DeviceIdentity) (r : ParsedMemoryIdentity) : Type 0 w
   pub number : r .«identification_number» ≡ optionU64 (some (d .«identification_number»))
   pub index : r .«logical_control_gear_index» ≡ optionU8 (some (d .«logical_gear_index»))
 
-abbrev pub EveryIdentityAsRecorded : Type 0
-EveryIdentityAsRecorded = (bank : List ℕ) (d : DeviceIdentity) → ofBank0 bank ≡ Known d → AsRecorded d (bank0Identity 0 bank)
+-- And one whose parts are all there is known.
+pub record KnownExactly (bank : List ℕ) : Type 0 where
+  pub as-recorded : {d : DeviceIdentity} → ofBank0 bank ≡ Known d → AsRecorded d (bank0Identity 0 bank)
+  pub known :
+      {g n i : ℕ} → 0x1A ≤ getD bank 0 0 → numberAt 0 bank 0x03 6 ≡ some g → numberAt 0 bank 0x0B 8 ≡ some n →
+      numberAt 0 bank 0x1A 1 ≡ some i → ofBank0 bank ≡ Known (identity g n i)
+
+abbrev pub EveryIdentityKnownExactly : Type 0
+EveryIdentityKnownExactly = (bank : List ℕ) → KnownExactly bank
