@@ -112,7 +112,7 @@ unfoldable pub printable : List ℕ → Bool
 printable [] = true
 printable (b ∷ bs) = (leb 0x20 b && leb b 0x7E) && printable bs
 
-abbrev isTextKind : FieldKind → Bool
+abbrev pub isTextKind : FieldKind → Bool
 isTextKind LayoutId = false
 isTextKind (Number patch r) = false
 isTextKind (Text t) = true

@@ -5,11 +5,12 @@ use mathlib.Core.List.{List, [], _∷_}
 use mathlib.Core.Option.{Option, none, some}
 use Prim.Native.Nat.{ℕ}
 use Rattle.bank.specs.declared.refusal.Refusal.{Refusal}
-use Rattle.bank.specs.declared.refusal.Refusal.the-variants.{FieldReadOnly, NotImplemented, NotRead, NotPart251, FieldNotInFormat, TooShort, BudgetZero, ReadOutInvalid, SliceTooShort, WrongChunkLength}
+use Rattle.bank.specs.declared.refusal.Refusal.the-variants.{FieldReadOnly, NotImplemented, NotRead, NotPart251, FieldNotInFormat, TooShort, NumberNotAccepted, TextNotAccepted, UnknownMaskBits, UnknownField, BudgetZero, ReadOutInvalid, SliceTooShort, WrongChunkLength}
 
 -- "1 field read-only"; "2 bank not implemented"; "3 last offset not read"; "4 id absent or not 3 to 5";
--- "5 not in format"; "6 field ends past the last offset"; "11 budget 0";
--- "12 length over 256, or next offset over length"; "13 .. the buffer shorter than the read-out's length";
+-- "5 not in format"; "6 field ends past the last offset"; "7 number not accepted"; "8 text not accepted";
+-- "9 mask bits 11 to 15"; "10 field index over 17"; "11 budget 0"; "12 length over 256, or next offset over length";
+-- "13 either store slice shorter than the list, or the buffer shorter than the read-out's length";
 -- "14 chunk of another length than wanted"
 abbrev pub numberOf : Refusal → ℕ
 numberOf FieldReadOnly = 1
@@ -18,6 +19,10 @@ numberOf NotRead = 3
 numberOf NotPart251 = 4
 numberOf FieldNotInFormat = 5
 numberOf TooShort = 6
+numberOf NumberNotAccepted = 7
+numberOf TextNotAccepted = 8
+numberOf UnknownMaskBits = 9
+numberOf UnknownField = 10
 numberOf BudgetZero = 11
 numberOf ReadOutInvalid = 12
 numberOf SliceTooShort = 13

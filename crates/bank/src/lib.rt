@@ -21,6 +21,7 @@ pub use part251::LightDistributionType;
 pub use read_out::ReadOut;
 pub use read_out::ResultReadOut;
 pub use read_out::Wanted;
+pub use refusal::OptionRefusal;
 pub use refusal::Refusal;
 
 pub enum OptionBool {

@@ -9,13 +9,17 @@ pub enum Refusal {
     NotPart251,
     FieldNotInFormat,
     TooShort,
+    NumberNotAccepted,
+    TextNotAccepted,
+    UnknownMaskBits,
+    UnknownField,
     BudgetZero,
     ReadOutInvalid,
     SliceTooShort,
     WrongChunkLength,
 }
 
-pub(crate) enum OptionRefusal {
+pub enum OptionRefusal {
     Some(Refusal),
     None,
 }
@@ -31,6 +35,10 @@ impl Refusal {
             Refusal::NotPart251 => 4,
             Refusal::FieldNotInFormat => 5,
             Refusal::TooShort => 6,
+            Refusal::NumberNotAccepted => 7,
+            Refusal::TextNotAccepted => 8,
+            Refusal::UnknownMaskBits => 9,
+            Refusal::UnknownField => 10,
             Refusal::BudgetZero => 11,
             Refusal::ReadOutInvalid => 12,
             Refusal::SliceTooShort => 13,

@@ -7,4 +7,6 @@ pub mod Text
 pub mod Steps
 pub mod Identity
 pub mod BusUnit
+pub mod Writes
+pub mod Plan
 pub mod Cases

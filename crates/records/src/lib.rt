@@ -4,6 +4,7 @@ pub mod attributes;
 pub mod bus_unit;
 pub mod fixed_text;
 pub mod identity;
+pub mod luminaire_write;
 pub mod memory_bank_parser;
 pub mod part251;
 mod utf8;
@@ -11,6 +12,7 @@ mod utf8;
 pub use attributes::BankReading;
 pub use attributes::LuminaireValue;
 pub use attributes::OptionBankReading;
+use bank::Refusal;
 pub use bus_unit::BusUnitConfiguration;
 pub use bus_unit::EmergencyGearType;
 pub use bus_unit::ImplementedParts;
@@ -20,6 +22,13 @@ pub use identity::DeviceIdentity;
 pub use identity::IdentityCause;
 pub use identity::IdentityRead;
 pub use identity::ResultDeviceIdentity;
+pub use luminaire_write::FieldWrite;
+pub use luminaire_write::LuminaireNumbers;
+pub use luminaire_write::OptionWriteStage;
+pub use luminaire_write::Plan;
+pub use luminaire_write::StagePart;
+pub use luminaire_write::WriteStage;
+pub use luminaire_write::planned_writes;
 pub use memory_bank_parser::ParsedBusUnit;
 pub use memory_bank_parser::ParsedCondition;
 pub use memory_bank_parser::ParsedEnergyBank;
@@ -32,4 +41,9 @@ pub use memory_bank_parser::ParsedSourceDiagnostics;
 pub enum OptionI8 {
     Some(i8),
     None,
+}
+
+pub enum ResultUsize {
+    Ok(usize),
+    Err(Refusal),
 }

@@ -1,0 +1,47 @@
+use borrow.Author.Needs.{needs}
+use Rattle.records.proofs.luminaire_write.FieldWrite.stages.Statement.{statement}
+use Rattle.records.proofs.luminaire_write.FieldWrite.stages.Tie as tie
+use Rattle.records.proofs.luminaire_write.FieldWrite.stages.Reads as reads
+use Rattle.records.proofs.luminaire_write.FieldWrite.stages.Lts as lts
+use Rattle.bank.proofs.luminaire_write.LuminaireField.of_index.Reads as of-index-reads
+use Rattle.records.proofs.luminaire_write.is_staged.Reads as is-staged-reads
+
+-- src/luminaire_write.rt:256:49
+of-index-requires : tie.Need-of-index-requires
+of-index-requires c κs = search needs
+
+-- src/luminaire_write.rt:256:40
+enum-known-field : tie.Need-enum-known-field
+enum-known-field c = search needs
+
+-- src/luminaire_write.rt:257:13
+enum-told : tie.Need-enum-told
+enum-told c = search needs
+
+-- src/luminaire_write.rt:257:13
+returns : tie.Need-returns
+returns c = ?
+
+-- src/luminaire_write.rt:259:12
+is-staged-requires : tie.Need-is-staged-requires
+is-staged-requires c κs = search needs
+
+-- src/luminaire_write.rt:253:5
+returns-2 : tie.Need-returns-2
+returns-2 c = ?
+
+-- src/luminaire_write.rt:253:5
+returns-3 : tie.Need-returns-3
+returns-3 c = ?
+
+pub stages-spec : {M : Type 1} → statement M
+stages-spec =
+    tie.close
+    (tie.spec
+    of-index-requires
+    enum-known-field
+    enum-told
+    returns
+    is-staged-requires
+    returns-2
+    returns-3)

@@ -1,0 +1,78 @@
+use Rattle.records.proofs.luminaire_write.Plan.fields_refusal.Statement.{statement}
+use Rattle.records.proofs.luminaire_write.Plan.fields_refusal.Tie as tie
+use Rattle.records.proofs.luminaire_write.Plan.fields_refusal.Reads as reads
+use Rattle.records.proofs.luminaire_write.Plan.fields_refusal.Lts as lts
+use Rattle.bank.proofs.luminaire_fields.Reads as luminaire-fields-reads
+use Rattle.records.proofs.luminaire_write.Plan.field_refusal.Reads as field-refusal-reads
+
+abbrev Inv-loop : tie.InvT-loop
+Inv-loop self text table index₀ index = ?
+
+abbrev μ-loop : tie.MeasureT-loop
+μ-loop self text table index₀ index = ?
+
+-- src/luminaire_write.rt:610:21
+luminaire-fields-requires : tie.Need-luminaire-fields-requires Inv-loop μ-loop
+luminaire-fields-requires c κs = ?
+
+-- src/luminaire_write.rt:612:9
+loop-holds : tie.Need-loop-holds Inv-loop μ-loop
+loop-holds c = ?
+
+-- src/luminaire_write.rt:613:77
+mul-field-refusal : tie.Need-mul-field-refusal Inv-loop μ-loop
+mul-field-refusal c = ?
+
+-- src/luminaire_write.rt:613:77
+array-copy-out-field-refusal : tie.Need-array-copy-out-field-refusal Inv-loop μ-loop
+array-copy-out-field-refusal c = ?
+
+-- src/luminaire_write.rt:613:51
+field-refusal-requires : tie.Need-field-refusal-requires Inv-loop μ-loop
+field-refusal-requires c κs = ?
+
+-- src/luminaire_write.rt:613:40
+enum-known-refusal : tie.Need-enum-known-refusal Inv-loop μ-loop
+enum-known-refusal c = ?
+
+-- src/luminaire_write.rt:614:17
+returns : tie.Need-returns Inv-loop μ-loop
+returns c = ?
+
+enum-told : tie.Need-enum-told Inv-loop μ-loop
+enum-told c = ?
+
+-- src/luminaire_write.rt:616:13
+add-index : tie.Need-add-index Inv-loop μ-loop
+add-index c = ?
+
+-- src/luminaire_write.rt:612:9
+loop-less : tie.Need-loop-less Inv-loop μ-loop
+loop-less c = ?
+
+-- src/luminaire_write.rt:612:9
+loop-again : tie.Need-loop-again Inv-loop μ-loop
+loop-again c = ?
+
+-- src/luminaire_write.rt:607:5
+returns-2 : tie.Need-returns-2 Inv-loop μ-loop
+returns-2 c = ?
+
+pub fields-refusal-spec : {M : Type 1} → statement M
+fields-refusal-spec =
+    tie.close
+    (tie.spec
+    Inv-loop
+    μ-loop
+    luminaire-fields-requires
+    loop-holds
+    mul-field-refusal
+    array-copy-out-field-refusal
+    field-refusal-requires
+    enum-known-refusal
+    returns
+    enum-told
+    add-index
+    loop-less
+    loop-again
+    returns-2)

@@ -1,0 +1,42 @@
+use borrow.Author.Needs.{needs}
+use Rattle.records.proofs.luminaire_write.Plan.wanted_refusal.Statement.{statement}
+use Rattle.records.proofs.luminaire_write.Plan.wanted_refusal.Tie as tie
+use Rattle.records.proofs.luminaire_write.Plan.wanted_refusal.Reads as reads
+use Rattle.records.proofs.luminaire_write.Plan.wanted_refusal.Lts as lts
+use Rattle.records.proofs.luminaire_write.LuminaireNumbers.of_field.Reads as of-field-reads
+use Rattle.records.proofs.luminaire_write.number_refusal.Reads as number-refusal-reads
+
+-- src/luminaire_write.rt:528:15
+of-field-requires : tie.Need-of-field-requires
+of-field-requires c κs = search needs
+
+-- src/luminaire_write.rt:529:29
+enum-known-value : tie.Need-enum-known-value
+enum-known-value c = search needs
+
+-- src/luminaire_write.rt:529:39
+number-refusal-requires : tie.Need-number-refusal-requires
+number-refusal-requires c κs = search needs
+
+-- src/luminaire_write.rt:530:32
+enum-told : tie.Need-enum-told
+enum-told c = search needs
+
+-- src/luminaire_write.rt:525:5
+returns : tie.Need-returns
+returns c = ?
+
+-- src/luminaire_write.rt:525:5
+returns-2 : tie.Need-returns-2
+returns-2 c = ?
+
+pub wanted-refusal-spec : {M : Type 1} → statement M
+wanted-refusal-spec =
+    tie.close
+    (tie.spec
+    of-field-requires
+    enum-known-value
+    number-refusal-requires
+    enum-told
+    returns
+    returns-2)

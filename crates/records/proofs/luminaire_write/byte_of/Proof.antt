@@ -1,0 +1,33 @@
+use borrow.Author.Needs.{needs}
+use Rattle.records.proofs.luminaire_write.byte_of.Statement.{statement}
+use Rattle.records.proofs.luminaire_write.byte_of.Tie as tie
+use Rattle.records.proofs.luminaire_write.byte_of.Reads as reads
+use Rattle.records.proofs.luminaire_write.byte_of.Lts as lts
+
+-- src/luminaire_write.rt:293:9
+returns : tie.Need-returns
+returns c = ?
+
+-- src/luminaire_write.rt:295:17
+mul-result : tie.Need-mul-result
+mul-result c = search needs
+
+-- src/luminaire_write.rt:295:17
+cast-result : tie.Need-cast-result
+cast-result c = search needs
+
+-- src/luminaire_write.rt:295:7
+shr-result : tie.Need-shr-result
+shr-result c = search needs
+
+-- src/luminaire_write.rt:295:5
+cast-result-2 : tie.Need-cast-result-2
+cast-result-2 c = search needs
+
+-- src/luminaire_write.rt:289:1
+returns-2 : tie.Need-returns-2
+returns-2 c = search needs
+
+pub byte-of-spec : {M : Type 1} → statement M
+byte-of-spec =
+    tie.close (tie.spec returns mul-result cast-result shr-result cast-result-2 returns-2)

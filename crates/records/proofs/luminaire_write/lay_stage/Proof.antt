@@ -1,0 +1,93 @@
+use Rattle.records.proofs.luminaire_write.lay_stage.Statement.{statement}
+use Rattle.records.proofs.luminaire_write.lay_stage.Tie as tie
+use Rattle.records.proofs.luminaire_write.lay_stage.Reads as reads
+use Rattle.records.proofs.luminaire_write.lay_stage.Lts as lts
+use Rattle.records.proofs.luminaire_write.put.Reads as put-reads
+
+abbrev Inv-loop : tie.InvT-loop
+Inv-loop offset bytes offsets₀ values₀ count i₀ offsets values i = ?
+
+abbrev μ-loop : tie.MeasureT-loop
+μ-loop offset bytes offsets₀ values₀ count i₀ offsets values i = ?
+
+-- src/luminaire_write.rt:406:5
+loop-holds : tie.Need-loop-holds Inv-loop μ-loop
+loop-holds c = ?
+
+-- src/luminaire_write.rt:407:22
+add-put : tie.Need-add-put Inv-loop μ-loop
+add-put c = ?
+
+-- src/luminaire_write.rt:407:42
+cast-put : tie.Need-cast-put Inv-loop μ-loop
+cast-put c = ?
+
+-- src/luminaire_write.rt:407:33
+add-put-2 : tie.Need-add-put-2 Inv-loop μ-loop
+add-put-2 c = ?
+
+-- src/luminaire_write.rt:407:9
+put-requires : tie.Need-put-requires Inv-loop μ-loop
+put-requires c κs = ?
+
+-- src/luminaire_write.rt:408:21
+add-put-3 : tie.Need-add-put-3 Inv-loop μ-loop
+add-put-3 c = ?
+
+-- src/luminaire_write.rt:408:32
+shared-slice-read-put : tie.Need-shared-slice-read-put Inv-loop μ-loop
+shared-slice-read-put c = ?
+
+-- src/luminaire_write.rt:408:9
+put-requires-2 : tie.Need-put-requires-2 Inv-loop μ-loop
+put-requires-2 c κs = ?
+
+-- src/luminaire_write.rt:409:9
+add-i : tie.Need-add-i Inv-loop μ-loop
+add-i c = ?
+
+-- src/luminaire_write.rt:406:5
+loop-less : tie.Need-loop-less Inv-loop μ-loop
+loop-less c = ?
+
+-- src/luminaire_write.rt:406:5
+loop-again : tie.Need-loop-again Inv-loop μ-loop
+loop-again c = ?
+
+-- src/luminaire_write.rt:411:5
+add-result : tie.Need-add-result Inv-loop μ-loop
+add-result c = ?
+
+-- src/luminaire_write.rt:399:1
+same-length : tie.Need-same-length Inv-loop μ-loop
+same-length c = ?
+
+-- src/luminaire_write.rt:399:1
+same-length-2 : tie.Need-same-length-2 Inv-loop μ-loop
+same-length-2 c = ?
+
+-- src/luminaire_write.rt:399:1
+returns : tie.Need-returns Inv-loop μ-loop
+returns c = ?
+
+pub lay-stage-spec : {M : Type 1} → statement M
+lay-stage-spec =
+    tie.close
+    (tie.spec
+    Inv-loop
+    μ-loop
+    loop-holds
+    add-put
+    cast-put
+    add-put-2
+    put-requires
+    add-put-3
+    shared-slice-read-put
+    put-requires-2
+    add-i
+    loop-less
+    loop-again
+    add-result
+    same-length
+    same-length-2
+    returns)

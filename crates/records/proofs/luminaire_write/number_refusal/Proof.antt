@@ -1,0 +1,47 @@
+use borrow.Author.Needs.{needs}
+use Rattle.records.proofs.luminaire_write.number_refusal.Statement.{statement}
+use Rattle.records.proofs.luminaire_write.number_refusal.Tie as tie
+use Rattle.records.proofs.luminaire_write.number_refusal.Reads as reads
+use Rattle.records.proofs.luminaire_write.number_refusal.Lts as lts
+use Rattle.bank.proofs.luminaire_write.LuminaireField.accepts_number.Reads as accepts-number-reads
+use Rattle.bank.proofs.check_writable.Reads as check-writable-reads
+
+-- src/luminaire_write.rt:489:11
+check-writable-requires : tie.Need-check-writable-requires
+check-writable-requires c κs = search needs
+
+-- src/luminaire_write.rt:490:35
+enum-known-format : tie.Need-enum-known-format
+enum-known-format c = search needs
+
+-- src/luminaire_write.rt:491:16
+accepts-number-requires : tie.Need-accepts-number-requires
+accepts-number-requires c κs = search needs
+
+-- src/luminaire_write.rt:492:17
+returns : tie.Need-returns
+returns c = ?
+
+-- src/luminaire_write.rt:496:36
+enum-known-refusal : tie.Need-enum-known-refusal
+enum-known-refusal c = search needs
+
+-- src/luminaire_write.rt:486:1
+returns-2 : tie.Need-returns-2
+returns-2 c = ?
+
+-- src/luminaire_write.rt:486:1
+returns-3 : tie.Need-returns-3
+returns-3 c = ?
+
+pub number-refusal-spec : {M : Type 1} → statement M
+number-refusal-spec =
+    tie.close
+    (tie.spec
+    check-writable-requires
+    enum-known-format
+    accepts-number-requires
+    returns
+    enum-known-refusal
+    returns-2
+    returns-3)

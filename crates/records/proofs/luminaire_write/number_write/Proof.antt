@@ -1,0 +1,95 @@
+use Rattle.records.proofs.luminaire_write.number_write.Statement.{statement}
+use Rattle.records.proofs.luminaire_write.number_write.Tie as tie
+use Rattle.records.proofs.luminaire_write.number_write.Reads as reads
+use Rattle.records.proofs.luminaire_write.number_write.Lts as lts
+use Rattle.records.proofs.luminaire_write.LuminaireNumbers.of_field.Reads as of-field-reads
+use Rattle.records.proofs.luminaire_write.byte_of.Reads as byte-of-reads
+use Rattle.records.proofs.luminaire_write.put.Reads as put-reads
+
+abbrev Inv-loop : tie.InvT-loop
+Inv-loop index bytes₀ value len i₀ bytes i = ?
+
+abbrev μ-loop : tie.MeasureT-loop
+μ-loop index bytes₀ value len i₀ bytes i = ?
+
+-- src/luminaire_write.rt:323:34
+of-field-requires : tie.Need-of-field-requires Inv-loop μ-loop
+of-field-requires c κs = ?
+
+-- src/luminaire_write.rt:323:25
+enum-known-value : tie.Need-enum-known-value Inv-loop μ-loop
+enum-known-value c = ?
+
+-- src/luminaire_write.rt:324:9
+enum-told : tie.Need-enum-told Inv-loop μ-loop
+enum-told c = ?
+
+-- src/luminaire_write.rt:324:9
+returns : tie.Need-returns Inv-loop μ-loop
+returns c = ?
+
+-- src/luminaire_write.rt:328:5
+loop-holds : tie.Need-loop-holds Inv-loop μ-loop
+loop-holds c = ?
+
+-- src/luminaire_write.rt:329:20
+cast-put : tie.Need-cast-put Inv-loop μ-loop
+cast-put c = ?
+
+-- src/luminaire_write.rt:329:47
+sub-byte-of : tie.Need-sub-byte-of Inv-loop μ-loop
+sub-byte-of c = ?
+
+-- src/luminaire_write.rt:329:47
+sub-byte-of-2 : tie.Need-sub-byte-of-2 Inv-loop μ-loop
+sub-byte-of-2 c = ?
+
+-- src/luminaire_write.rt:329:32
+byte-of-requires : tie.Need-byte-of-requires Inv-loop μ-loop
+byte-of-requires c κs = ?
+
+-- src/luminaire_write.rt:329:9
+put-requires : tie.Need-put-requires Inv-loop μ-loop
+put-requires c κs = ?
+
+-- src/luminaire_write.rt:330:9
+add-i : tie.Need-add-i Inv-loop μ-loop
+add-i c = ?
+
+-- src/luminaire_write.rt:328:5
+loop-less : tie.Need-loop-less Inv-loop μ-loop
+loop-less c = ?
+
+-- src/luminaire_write.rt:328:5
+loop-again : tie.Need-loop-again Inv-loop μ-loop
+loop-again c = ?
+
+-- src/luminaire_write.rt:314:1
+same-length : tie.Need-same-length Inv-loop μ-loop
+same-length c = ?
+
+-- src/luminaire_write.rt:314:1
+returns-2 : tie.Need-returns-2 Inv-loop μ-loop
+returns-2 c = ?
+
+pub number-write-spec : {M : Type 1} → statement M
+number-write-spec =
+    tie.close
+    (tie.spec
+    Inv-loop
+    μ-loop
+    of-field-requires
+    enum-known-value
+    enum-told
+    returns
+    loop-holds
+    cast-put
+    sub-byte-of
+    sub-byte-of-2
+    byte-of-requires
+    put-requires
+    add-i
+    loop-less
+    loop-again
+    same-length
+    returns-2)

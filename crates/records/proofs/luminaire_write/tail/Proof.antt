@@ -1,0 +1,28 @@
+use borrow.Author.Needs.{needs}
+use Rattle.records.proofs.luminaire_write.tail.Statement.{statement}
+use Rattle.records.proofs.luminaire_write.tail.Tie as tie
+use Rattle.records.proofs.luminaire_write.tail.Reads as reads
+use Rattle.records.proofs.luminaire_write.tail.Lts as lts
+
+-- src/luminaire_write.rt:178:9
+returns : tie.Need-returns
+returns c = ?
+
+-- src/luminaire_write.rt:180:5
+sub-result : tie.Need-sub-result
+sub-result c = search needs
+
+-- src/luminaire_write.rt:180:5
+part-result-start : tie.Need-part-result-start
+part-result-start c = search needs
+
+-- src/luminaire_write.rt:180:5
+part-result-end : tie.Need-part-result-end
+part-result-end c = search needs
+
+-- src/luminaire_write.rt:174:1
+returns-2 : tie.Need-returns-2
+returns-2 c = ?
+
+pub tail-spec : {M : Type 1} → statement M
+tail-spec = tie.close (tie.spec returns sub-result part-result-start part-result-end returns-2)

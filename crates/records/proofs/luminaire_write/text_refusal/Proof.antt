@@ -1,0 +1,47 @@
+use borrow.Author.Needs.{needs}
+use Rattle.records.proofs.luminaire_write.text_refusal.Statement.{statement}
+use Rattle.records.proofs.luminaire_write.text_refusal.Tie as tie
+use Rattle.records.proofs.luminaire_write.text_refusal.Reads as reads
+use Rattle.records.proofs.luminaire_write.text_refusal.Lts as lts
+use Rattle.bank.proofs.luminaire_write.LuminaireField.accepts_text.Reads as accepts-text-reads
+use Rattle.bank.proofs.check_writable.Reads as check-writable-reads
+
+-- src/luminaire_write.rt:504:11
+check-writable-requires : tie.Need-check-writable-requires
+check-writable-requires c κs = search needs
+
+-- src/luminaire_write.rt:506:16
+enum-told : tie.Need-enum-told
+enum-told c = search needs
+
+-- src/luminaire_write.rt:506:16
+accepts-text-requires : tie.Need-accepts-text-requires
+accepts-text-requires c κs = search needs
+
+-- src/luminaire_write.rt:507:17
+returns : tie.Need-returns
+returns c = ?
+
+-- src/luminaire_write.rt:511:36
+enum-known-refusal : tie.Need-enum-known-refusal
+enum-known-refusal c = search needs
+
+-- src/luminaire_write.rt:501:1
+returns-2 : tie.Need-returns-2
+returns-2 c = ?
+
+-- src/luminaire_write.rt:501:1
+returns-3 : tie.Need-returns-3
+returns-3 c = ?
+
+pub text-refusal-spec : {M : Type 1} → statement M
+text-refusal-spec =
+    tie.close
+    (tie.spec
+    check-writable-requires
+    enum-told
+    accepts-text-requires
+    returns
+    enum-known-refusal
+    returns-2
+    returns-3)

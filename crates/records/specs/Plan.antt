@@ -1,0 +1,82 @@
+-- 01, "The plan, where a write enters": whether a plan is refused, and what it answers.
+-- Assumes nothing.
+use mathlib.Core.Bool.{Bool, false, not, cond, _||_}
+use mathlib.Core.List.{List, [], _∷_, _++_}
+use mathlib.Core.Option.{Option, none, some}
+use Prim.Native.Nat.{ℕ}
+use lib.Dec.{ltb}
+use lib.ListN.{length}
+use Rattle.bus.specs.declared.part251.LuminaireFormat.{LuminaireFormat}
+use Rattle.bus.specs.Value.{laidInto}
+use Rattle.bank.specs.declared.OptionUsize.{OptionUsize}
+use Rattle.bank.specs.declared.refusal.Refusal.the-variants.{NumberNotAccepted, TextNotAccepted, UnknownMaskBits, UnknownField, SliceTooShort}
+use Rattle.bank.specs.declared.luminaire_write.LuminaireField.{LuminaireField}
+use Rattle.bank.specs.declared.luminaire_write.Bank1Layout.{Bank1Layout}
+use Rattle.bank.specs.Refusal.{Check, _when_, checked}
+use Rattle.bank.specs.Fields.{luminaireFields, acceptsNumber, acceptsText}
+use Rattle.bank.specs.Writable.{formatIn, writeChecks}
+use Rattle.records.specs.declared.ResultUsize.{ResultUsize}
+use Rattle.records.specs.declared.luminaire_write.Plan.{Plan}
+use Rattle.records.specs.Writes.{wantedNumber, isFor, gather, Store, offsetsOf, valuesOf, planStores}
+
+-- 7: "number not accepted", in a format, without which 4 has refused it
+abbrev rejects : Option LuminaireFormat → LuminaireField → ℕ → Bool
+rejects none f value = false
+rejects (some v) f value = not (acceptsNumber f v value)
+
+-- "refusals 1 to 6 in that order, then 7"
+abbrev pub numberChecks : Bank1Layout → LuminaireField → ℕ → List Check
+numberChecks l f value = writeChecks l f ++ NumberNotAccepted when rejects (formatIn (l .«content_format_id»)) f value ∷ []
+
+-- "or 8"
+abbrev pub textChecks : Bank1Layout → LuminaireField → List ℕ → List Check
+textChecks l f text = writeChecks l f ++ TextNotAccepted when not (acceptsText f text) ∷ []
+
+abbrev pub ifWanted : Option ℕ → (ℕ → List Check) → List Check
+ifWanted none checks = []
+ifWanted (some value) checks = checks value
+
+-- "a number before a text at the same offset"
+abbrev pub fieldChecks : Plan → List ℕ → ℕ → LuminaireField → List Check
+fieldChecks p text place f =
+    ifWanted (wantedNumber (p .numbers) (f .kind)) (numberChecks (p .layout) f)
+    ++ cond (isFor (p .«text_field») place) (textChecks (p .layout) f text) []
+
+-- 9: "mask bits 11 to 15"
+abbrev pub unknownBits : Plan → Check
+unknownBits p = UnknownMaskBits when ltb 2047 (p .numbers .«patch_mask»)
+
+abbrev pub indexOver : OptionUsize → Bool
+indexOver (OptionUsize.Some i) = ltb 17 i
+indexOver OptionUsize.None = false
+
+-- 10: "field index over 17"
+abbrev pub unknownField : Plan → Check
+unknownField p = UnknownField when indexOver (p .«text_field»)
+
+-- "Checks: refusal 9, then 10, then each wanted field by rising offset"
+unfoldable pub planChecks : Plan → List ℕ → List Check
+planChecks p text = unknownBits p ∷ unknownField p ∷ gather (fieldChecks p text) luminaireFields
+
+-- the stores of an accepted plan
+abbrev pub storesOf : Plan → List ℕ → List Store
+storesOf p text = planStores (p .numbers) (p .«text_field») text
+
+-- 13: "either store slice shorter than the list"
+abbrev pub shortSlices : List Store → List ℕ → List ℕ → Check
+shortSlices ss os vs = SliceTooShort when (ltb (length os) (length ss) || ltb (length vs) (length ss))
+
+-- "13 last"
+abbrev pub layChecks : Plan → List ℕ → List ℕ → List ℕ → List Check
+layChecks p text os vs = planChecks p text ++ shortSlices (storesOf p text) os vs ∷ []
+
+-- the count of stores, or the refusal
+unfoldable pub planned : Plan → List ℕ → List ℕ → List ℕ → ResultUsize
+planned p text os vs = checked (layChecks p text os vs) ResultUsize.Err (ResultUsize.Ok (length (storesOf p text)))
+
+-- "laid into two lent byte slices. Later entries are unchanged."
+unfoldable pub offsetsAfter : Plan → List ℕ → List ℕ → List ℕ → List ℕ
+offsetsAfter p text os vs = checked (layChecks p text os vs) (λ _. os) (laidInto (offsetsOf (storesOf p text)) os)
+
+unfoldable pub valuesAfter : Plan → List ℕ → List ℕ → List ℕ → List ℕ
+valuesAfter p text os vs = checked (layChecks p text os vs) (λ _. vs) (laidInto (valuesOf (storesOf p text)) vs)
