@@ -49,6 +49,7 @@ pub struct Row<A, R> {
     all: fn(&mut Source) -> Vec<A>,
     domain: Option<fn() -> Cases<A>>,
     random: Option<fn(&mut Source) -> A>,
+    rounds: usize,
 }
 
 /// Cases that are made one at a time.
@@ -57,8 +58,7 @@ pub type Cases<A> = Box<dyn Iterator<Item = A>>;
 impl<A, R> Row<A, R> {
     /// `all` makes the cases that every run has: a whole domain, or its edges.
     pub const fn new(number: u8, name: &'static str, answer: fn(A) -> R, all: fn(&mut Source) -> Vec<A>) -> Self {
-        let (domain, random) = (None, None);
-        Self { number, name, answer, all, domain, random }
+        Self { number, name, answer, all, domain: None, random: None, rounds: 1 }
     }
 
     /// Adds, at full scale, a domain that is too large to be held at once.
@@ -70,6 +70,12 @@ impl<A, R> Row<A, R> {
     /// Adds random cases, each made by `random`.
     pub const fn random(mut self, random: fn(&mut Source) -> A) -> Self {
         self.random = Some(random);
+        self
+    }
+
+    /// Makes the random cases so many times over.
+    pub const fn rounds(mut self, rounds: usize) -> Self {
+        self.rounds = rounds;
         self
     }
 }
@@ -117,7 +123,7 @@ impl<A: Put + Take, R: Put> Function for Row<A, R> {
         let Some(random) = self.random else {
             return Ok(());
         };
-        (0..source.scale.random_cases()).try_for_each(|_| ask_case(random(source)))
+        (0..self.rounds * source.scale.random_cases()).try_for_each(|_| ask_case(random(source)))
     }
 }
 

@@ -202,6 +202,16 @@ impl<T: Put, const N: usize> Put for [T; N] {
     }
 }
 
+impl<T: Take + Copy + Default, const N: usize> Take for [T; N] {
+    fn take(args: &mut Args) -> Option<Self> {
+        let mut values = [T::default(); N];
+        for value in &mut values {
+            *value = args.take()?;
+        }
+        Some(values)
+    }
+}
+
 /// A lent slice: its length in elements, then these.
 impl<T: Put> Put for Vec<T> {
     fn put(&self, line: &mut Line) {

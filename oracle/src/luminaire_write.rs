@@ -1,4 +1,9 @@
-//! The functions of `banks/luminaire_write.rs`.
+//! The functions of `banks/luminaire_write.rs`, and the plan over them. The writes and the plan are in the files of its
+//! folder.
+
+mod plan;
+mod wanted;
+mod writes;
 
 use dali2rust_contracts::msg::{LuminaireNumbers, LuminaireTextField};
 use dali2rust_domain::dali::banks::luminaire_write::{
@@ -10,6 +15,15 @@ use crate::function::{Cases, Function, Row, Scale, Source};
 use crate::line::{Args, Line, Put, Take};
 use crate::part251::FORMATS;
 use crate::rng::Rng;
+use plan::{plan_cases, planned, random_plan};
+use wanted::mask_cases;
+use writes::{
+    all_writes, every_mask, held_cases, random_held, random_write, random_writes, stages, write_cases, write_of,
+    writes_cases, HeldCase, WriteCase,
+};
+
+pub use plan::{longest, planned_stores, random_layout_and_wanted, wanting, with_bit};
+pub use wanted::{number_fields, telling_u32s, text_fields, Numbers, Wanted};
 
 pub const FUNCTIONS: &[&dyn Function] = &[
     &Row::new(0x30, "LUMINAIRE_FIELDS, one entry", |index: usize| LUMINAIRE_FIELDS.get(index).copied(), indices),
@@ -43,11 +57,35 @@ pub const FUNCTIONS: &[&dyn Function] = &[
     )
     .domain(every_number)
     .random(random_number),
-    &Row::new(0x36, "LuminaireField::accepts_text", accepts_text, text_cases).random(random_text),
+    &Row::new(
+        0x36,
+        "LuminaireField::accepts_text",
+        |(field, bytes): TextCase| accepts_text(&field, &bytes),
+        text_cases,
+    )
+    .random(random_text),
     &Row::new(0x37, "Bank1Layout::from_header", |header: Vec<u8>| Bank1Layout::from_header(&header), header_cases)
         .random(random_header),
     &Row::new(0x38, "check_writable", |(layout, field): WritableCase| check_writable(&layout, &field), writable_cases)
         .random(|source| (random_layout(&mut source.rng), random_field(&mut source.rng))),
+    &Row::new(0x39, "planned_writes", all_writes, writes_cases).domain(every_mask).random(random_writes),
+    &Row::new(
+        0x3A,
+        "FieldWrite::end",
+        |(index, bytes): WriteCase| write_of(index, bytes).map(|write| write.end()),
+        write_cases,
+    )
+    .random(random_write),
+    &Row::new(
+        0x3B,
+        "FieldWrite::held_by",
+        |(index, bytes, bank): HeldCase| write_of(index, bytes).is_some_and(|write| write.held_by(&bank)),
+        held_cases,
+    )
+    .random(random_held),
+    &Row::new(0x3C, "FieldWrite::stages", stages, write_cases).random(random_write),
+    &Row::new(0x3D, "the count of wanted numbers", |numbers: Numbers| numbers.mask.count_ones(), mask_cases),
+    &Row::new(0x3E, "a plan", planned, plan_cases).random(random_plan).rounds(2),
 ];
 
 const TEXTS: [LuminaireTextField; 6] = [
@@ -168,17 +206,20 @@ impl Take for Bank1Layout {
     }
 }
 
+fn refusal_number(refusal: Bank1WriteRefusal) -> u8 {
+    match refusal {
+        Bank1WriteRefusal::FieldReadOnly => 1,
+        Bank1WriteRefusal::NotImplemented => 2,
+        Bank1WriteRefusal::NotRead => 3,
+        Bank1WriteRefusal::NotPart251 => 4,
+        Bank1WriteRefusal::FieldNotInFormat => 5,
+        Bank1WriteRefusal::TooShort => 6,
+    }
+}
+
 impl Put for Bank1WriteRefusal {
     fn put(&self, line: &mut Line) {
-        let number: u8 = match self {
-            Self::FieldReadOnly => 1,
-            Self::NotImplemented => 2,
-            Self::NotRead => 3,
-            Self::NotPart251 => 4,
-            Self::FieldNotInFormat => 5,
-            Self::TooShort => 6,
-        };
-        line.put(&number);
+        line.put(&refusal_number(*self));
     }
 }
 
@@ -188,8 +229,12 @@ fn indices(_: &mut Source) -> Vec<usize> {
 }
 
 fn index_of_text(text: LuminaireTextField) -> Option<usize> {
-    let field = LuminaireField::of_text(text)?;
-    LUMINAIRE_FIELDS.iter().position(|listed| listed == field)
+    LuminaireField::of_text(text).map(index_of)
+}
+
+/// The place in the list of a field that is there.
+pub fn index_of(field: &LuminaireField) -> usize {
+    LUMINAIRE_FIELDS.iter().take_while(|listed| *listed != field).count()
 }
 
 /// Any field that ends within a bank, also one that is not listed.
@@ -302,8 +347,8 @@ fn random_number(source: &mut Source) -> NumberCase {
 type TextCase = (LuminaireField, Vec<u8>);
 
 /// The Rust takes text. Bytes that are no UTF-8 have one from 80 hex on, which its rule never accepts.
-fn accepts_text((field, bytes): TextCase) -> bool {
-    std::str::from_utf8(&bytes).is_ok_and(|text| field.accepts_text(text))
+fn accepts_text(field: &LuminaireField, bytes: &[u8]) -> bool {
+    std::str::from_utf8(bytes).is_ok_and(|text| field.accepts_text(text))
 }
 
 fn text_cases(source: &mut Source) -> Vec<TextCase> {
@@ -328,7 +373,7 @@ fn text_lengths(scale: Scale, len: usize) -> Vec<usize> {
 }
 
 /// The bytes around the printable ones, and the first and last of all.
-const TELLING_BYTES: [u8; 7] = [0x00, 0x1F, 0x20, 0x7E, 0x7F, 0x80, 0xFF];
+pub const TELLING_BYTES: [u8; 7] = [0x00, 0x1F, 0x20, 0x7E, 0x7F, 0x80, 0xFF];
 
 /// Texts that fill the field, with any byte at any place.
 fn texts_with_another_byte(source: &mut Source, field: LuminaireField, cases: &mut Vec<TextCase>) {

@@ -13,6 +13,7 @@ mod memory_bank_parser;
 mod part251;
 mod read_out;
 mod rng;
+mod stores;
 
 use std::io::{self, Write};
 use std::path::Path;
@@ -24,7 +25,8 @@ use block::{add_line, answers, fill_up, has_room, read_block};
 use compare::compare;
 use function::{functions, Scale, Source};
 
-const USAGE: &str = "usage: oracle compare PROGRAM [SEED] | oracle list DIR | oracle answer";
+const USAGE: &str = "usage: oracle compare PROGRAM [SEED] | oracle list DIR | oracle answer \
+    | oracle stores PROGRAM [SEED] | oracle files DIR";
 
 /// The list is the same every time.
 const LIST_SEED: u64 = 251;
@@ -47,6 +49,9 @@ fn run() -> io::Result<()> {
         ["compare", program, seed] => compare(program, seed.parse().map_err(io::Error::other)?),
         ["list", dir] => list(Path::new(dir)),
         ["answer"] => answer_input(),
+        ["stores", program] => stores::check_program(program, seed_of_the_clock()),
+        ["stores", program, seed] => stores::check_program(program, seed.parse().map_err(io::Error::other)?),
+        ["files", dir] => stores::write_cases(Path::new(dir)),
         _ => Err(io::Error::other(USAGE)),
     }
 }

@@ -1,3 +1,12 @@
+pub mod Options
+pub mod Laying
+pub mod Gathering
+pub mod Refusals
+pub mod Table
+pub mod Stages
+pub mod Stores
+pub mod Numbers
+pub mod Held
 pub mod Places
 pub mod Records
 pub mod Sequences

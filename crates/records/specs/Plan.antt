@@ -20,7 +20,7 @@ use Rattle.records.specs.declared.luminaire_write.Plan.{Plan}
 use Rattle.records.specs.Writes.{wantedNumber, isFor, gather, Store, offsetsOf, valuesOf, planStores}
 
 -- 7: "number not accepted", in a format, without which 4 has refused it
-abbrev rejects : Option LuminaireFormat → LuminaireField → ℕ → Bool
+abbrev pub rejects : Option LuminaireFormat → LuminaireField → ℕ → Bool
 rejects none f value = false
 rejects (some v) f value = not (acceptsNumber f v value)
 

@@ -44,8 +44,9 @@ pub mod msg {
         FreeUse,
     }
 
+    /// A text of any bytes and any length, so that every one can be asked.
     #[derive(Debug, Clone, Default, PartialEq, Eq)]
-    pub struct LuminaireText(String);
+    pub struct LuminaireText(pub Vec<u8>);
 
     impl LuminaireText {
         pub fn new() -> Self {
@@ -53,12 +54,12 @@ pub mod msg {
         }
 
         pub fn push_str(&mut self, text: &str) -> Result<(), Infallible> {
-            self.0.push_str(text);
+            self.0.extend_from_slice(text.as_bytes());
             Ok(())
         }
 
         pub fn as_bytes(&self) -> &[u8] {
-            self.0.as_bytes()
+            &self.0
         }
     }
 

@@ -3,11 +3,18 @@ use Rattle.records.proofs.luminaire_write.byte_of.Statement.{statement}
 use Rattle.records.proofs.luminaire_write.byte_of.Tie as tie
 use Rattle.records.proofs.luminaire_write.byte_of.Reads as reads
 use Rattle.records.proofs.luminaire_write.byte_of.Lts as lts
+use mathlib.Core.Path.{_≡_, refl, sym}
+use Prim.Native.Nat.{_*_, _^_, _<_}
+use native.Mathlib.Nat.{div-eq-of-lt}
+use native.Mathlib.Omega.{arith}
+use lib.Pow.{pow-mono}
 
 -- src/luminaire_write.rt:293:9
 returns : tie.Need-returns
-returns c = ?
-
+returns c =
+    let a = c .before .args in
+    let h : a .value < 2 ^ (8 * a .behind) = omega (arith, pow-mono {i = 32} {j = 8 * a .behind} (omega arith)) in
+    rw (div-eq-of-lt h)
 -- src/luminaire_write.rt:295:17
 mul-result : tie.Need-mul-result
 mul-result c = search needs

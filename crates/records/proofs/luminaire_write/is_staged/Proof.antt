@@ -3,6 +3,7 @@ use Rattle.records.proofs.luminaire_write.is_staged.Statement.{statemen
 use Rattle.records.proofs.luminaire_write.is_staged.Tie as tie
 use Rattle.records.proofs.luminaire_write.is_staged.Reads as reads
 use Rattle.records.proofs.luminaire_write.is_staged.Lts as lts
+use mathlib.Core.Path.{refl}
 
 -- src/luminaire_write.rt:198:32
 enum-told : tie.Need-enum-told
@@ -26,7 +27,6 @@ returns-2 c = search needs
 
 -- src/luminaire_write.rt:193:1
 returns-3 : tie.Need-returns-3
-returns-3 c = ?
-
+returns-3 c = rw (c .enum-told3 .given .1)
 pub is-staged-spec : {M : Type 1} → statement M
 is-staged-spec = tie.close (tie.spec enum-told enum-told-2 enum-told-3 returns returns-2 returns-3)

@@ -3,61 +3,58 @@ use Rattle.records.proofs.luminaire_write.lay_stage.Tie as tie
 use Rattle.records.proofs.luminaire_write.lay_stage.Reads as reads
 use Rattle.records.proofs.luminaire_write.lay_stage.Lts as lts
 use Rattle.records.proofs.luminaire_write.put.Reads as put-reads
+use mathlib.Core.Path.{_≡_, refl, sym, ap, _∙_}
+use mathlib.Core.List.{List}
+use Prim.Native.Nat.{ℕ, _+_, _-_, _≤_, _<_}
+use native.Mathlib.Omega.{arith}
+use borrow.Author.Needs.{needs}
+use lib.ListN.{length, getD, set, take}
+use lib.Seq.{sets, take-all, length-sets}
+use Rattle.records.specs.Writes.{singleBytes, offsetsOf, valuesOf}
+use Rattle.records.proofs.Laying.{sets-next}
+use Rattle.records.proofs.Stores.{offsets-length, offsets-at, values-are}
 
 abbrev Inv-loop : tie.InvT-loop
-Inv-loop offset bytes offsets₀ values₀ count i₀ offsets values i = ?
-
+Inv-loop offset bytes offsets₀ values₀ count i₀ offsets values i = (i ≤ length bytes) × (offset + length bytes ≤ 256) × (count ≤ 65536) × (offsets ≡ sets offsets₀ count (take i (offsetsOf (singleBytes offset bytes)))) × (values ≡ sets values₀ count (take i bytes))
 abbrev μ-loop : tie.MeasureT-loop
-μ-loop offset bytes offsets₀ values₀ count i₀ offsets values i = ?
-
+μ-loop offset bytes offsets₀ values₀ count i₀ offsets values i = length bytes - i
 -- src/luminaire_write.rt:406:5
 loop-holds : tie.Need-loop-holds Inv-loop μ-loop
-loop-holds c = ?
-
+loop-holds c = (omega arith, c .before .before .pre .0, c .before .before .pre .1, refl, refl)
 -- src/luminaire_write.rt:407:22
 add-put : tie.Need-add-put Inv-loop μ-loop
-add-put c = ?
-
+add-put c = omega arith
 -- src/luminaire_write.rt:407:42
 cast-put : tie.Need-cast-put Inv-loop μ-loop
-cast-put c = ?
-
+cast-put c = omega arith
 -- src/luminaire_write.rt:407:33
 add-put-2 : tie.Need-add-put-2 Inv-loop μ-loop
-add-put-2 c = ?
-
+add-put-2 c = omega arith
 -- src/luminaire_write.rt:407:9
 put-requires : tie.Need-put-requires Inv-loop μ-loop
-put-requires c κs = ?
-
+put-requires c κs = search needs
 -- src/luminaire_write.rt:408:21
 add-put-3 : tie.Need-add-put-3 Inv-loop μ-loop
-add-put-3 c = ?
-
+add-put-3 c = omega arith
 -- src/luminaire_write.rt:408:32
 shared-slice-read-put : tie.Need-shared-slice-read-put Inv-loop μ-loop
-shared-slice-read-put c = ?
-
+shared-slice-read-put c = omega arith
 -- src/luminaire_write.rt:408:9
 put-requires-2 : tie.Need-put-requires-2 Inv-loop μ-loop
-put-requires-2 c κs = ?
-
+put-requires-2 c κs = search needs
 -- src/luminaire_write.rt:409:9
 add-i : tie.Need-add-i Inv-loop μ-loop
-add-i c = ?
-
+add-i c = omega arith
 -- src/luminaire_write.rt:406:5
 loop-less : tie.Need-loop-less Inv-loop μ-loop
-loop-less c = ?
-
+loop-less c = omega arith
 -- src/luminaire_write.rt:406:5
 loop-again : tie.Need-loop-again Inv-loop μ-loop
 loop-again c = ?
 
 -- src/luminaire_write.rt:411:5
 add-result : tie.Need-add-result Inv-loop μ-loop
-add-result c = ?
-
+add-result c = omega arith
 -- src/luminaire_write.rt:399:1
 same-length : tie.Need-same-length Inv-loop μ-loop
 same-length c = ?

@@ -5,61 +5,60 @@ use Rattle.records.proofs.luminaire_write.number_write.Lts as lts
 use Rattle.records.proofs.luminaire_write.LuminaireNumbers.of_field.Reads as of-field-reads
 use Rattle.records.proofs.luminaire_write.byte_of.Reads as byte-of-reads
 use Rattle.records.proofs.luminaire_write.put.Reads as put-reads
+use mathlib.Core.Path.{_≡_, refl, sym, ap, _∙_}
+use mathlib.Core.List.{List}
+use Prim.Native.Nat.{ℕ, _+_, _-_, _*_, _/_, _%_, _^_, _≤_, _<_}
+use native.Mathlib.Omega.{arith}
+use borrow.Author.Needs.{needs}
+use lib.ListN.{length, getD, set, take}
+use lib.Seq.{sets, take-all, length-sets}
+use Rattle.bus.specs.Number.{lowBytes}
+use Rattle.bus.proofs.Number.{length-lowBytes, lowBytes-at}
+use Rattle.bank.proofs.Options.{told-u32}
+use Rattle.records.specs.Writes.{wantedNumber}
+use Rattle.records.proofs.Laying.{sets-next}
 
 abbrev Inv-loop : tie.InvT-loop
-Inv-loop index bytes₀ value len i₀ bytes i = ?
-
+Inv-loop index bytes₀ value len i₀ bytes i = (i ≤ len) × (bytes ≡ sets bytes₀ 0 (take i (lowBytes len value)))
 abbrev μ-loop : tie.MeasureT-loop
-μ-loop index bytes₀ value len i₀ bytes i = ?
-
+μ-loop index bytes₀ value len i₀ bytes i = len - i
 -- src/luminaire_write.rt:323:34
 of-field-requires : tie.Need-of-field-requires Inv-loop μ-loop
-of-field-requires c κs = ?
-
+of-field-requires c κs = search needs
 -- src/luminaire_write.rt:323:25
 enum-known-value : tie.Need-enum-known-value Inv-loop μ-loop
-enum-known-value c = ?
-
+enum-known-value c = search needs
 -- src/luminaire_write.rt:324:9
 enum-told : tie.Need-enum-told Inv-loop μ-loop
-enum-told c = ?
-
+enum-told c = search needs
 -- src/luminaire_write.rt:324:9
 returns : tie.Need-returns Inv-loop μ-loop
 returns c = ?
 
 -- src/luminaire_write.rt:328:5
 loop-holds : tie.Need-loop-holds Inv-loop μ-loop
-loop-holds c = ?
-
+loop-holds c = (omega arith, refl)
 -- src/luminaire_write.rt:329:20
 cast-put : tie.Need-cast-put Inv-loop μ-loop
-cast-put c = ?
-
+cast-put c = omega arith
 -- src/luminaire_write.rt:329:47
 sub-byte-of : tie.Need-sub-byte-of Inv-loop μ-loop
-sub-byte-of c = ?
-
+sub-byte-of c = omega arith
 -- src/luminaire_write.rt:329:47
 sub-byte-of-2 : tie.Need-sub-byte-of-2 Inv-loop μ-loop
-sub-byte-of-2 c = ?
-
+sub-byte-of-2 c = omega arith
 -- src/luminaire_write.rt:329:32
 byte-of-requires : tie.Need-byte-of-requires Inv-loop μ-loop
-byte-of-requires c κs = ?
-
+byte-of-requires c κs = search needs
 -- src/luminaire_write.rt:329:9
 put-requires : tie.Need-put-requires Inv-loop μ-loop
-put-requires c κs = ?
-
+put-requires c κs = search needs
 -- src/luminaire_write.rt:330:9
 add-i : tie.Need-add-i Inv-loop μ-loop
-add-i c = ?
-
+add-i c = omega arith
 -- src/luminaire_write.rt:328:5
 loop-less : tie.Need-loop-less Inv-loop μ-loop
-loop-less c = ?
-
+loop-less c = omega arith
 -- src/luminaire_write.rt:328:5
 loop-again : tie.Need-loop-again Inv-loop μ-loop
 loop-again c = ?

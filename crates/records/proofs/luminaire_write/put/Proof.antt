@@ -3,6 +3,8 @@ use Rattle.records.proofs.luminaire_write.put.Statement.{statement}
 use Rattle.records.proofs.luminaire_write.put.Tie as tie
 use Rattle.records.proofs.luminaire_write.put.Reads as reads
 use Rattle.records.proofs.luminaire_write.put.Lts as lts
+use mathlib.Core.Path.{sym}
+use lib.Seq.{set-out}
 
 -- src/luminaire_write.rt:112:9
 slice-write-out : tie.Need-slice-write-out
@@ -18,7 +20,6 @@ returns c = search needs
 
 -- src/luminaire_write.rt:108:1
 returns-2 : tie.Need-returns-2
-returns-2 c = ?
-
+returns-2 c = sym (set-out _ _ _ (c .if1 .left))
 pub put-spec : {M : Type 1} → statement M
 put-spec = tie.close (tie.spec slice-write-out same-length returns returns-2)

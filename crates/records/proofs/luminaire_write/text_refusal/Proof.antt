@@ -5,6 +5,11 @@ use Rattle.records.proofs.luminaire_write.text_refusal.Reads as reads
 use Rattle.records.proofs.luminaire_write.text_refusal.Lts as lts
 use Rattle.bank.proofs.luminaire_write.LuminaireField.accepts_text.Reads as accepts-text-reads
 use Rattle.bank.proofs.check_writable.Reads as check-writable-reads
+use mathlib.Core.Path.{_≡_, refl, sym, ap, _∙_}
+use mathlib.Core.Bool.{Bool, not}
+use Rattle.bank.specs.declared.refusal.Refusal.the-variants.{TextNotAccepted}
+use Rattle.bank.specs.Options.{optionRefusal}
+use Rattle.records.proofs.Refusals.{alone-passed, alone-refused, refused-behind, passed-behind}
 
 -- src/luminaire_write.rt:504:11
 check-writable-requires : tie.Need-check-writable-requires
@@ -20,20 +25,26 @@ accepts-text-requires c κs = search needs
 
 -- src/luminaire_write.rt:507:17
 returns : tie.Need-returns
-returns c = ?
-
+returns c =
+    let w = c .before .before .before .before in
+    let a = w .before .before .args in
+    sym (ap optionRefusal (passed-behind (a .layout) (a .field) _ (sym (w .check-writable .ensures) ∙ c .before .before .enum-told .given .1) ∙ alone-passed TextNotAccepted (ap not (sym (c .before .accepts-text .ensures) ∙ c .if1 .taken))))
 -- src/luminaire_write.rt:511:36
 enum-known-refusal : tie.Need-enum-known-refusal
 enum-known-refusal c = search needs
 
 -- src/luminaire_write.rt:501:1
 returns-2 : tie.Need-returns-2
-returns-2 c = ?
-
+returns-2 c =
+    let w = c .before .before .before .before in
+    let a = w .before .before .args in
+    sym (ap optionRefusal (passed-behind (a .layout) (a .field) _ (sym (w .check-writable .ensures) ∙ c .before .before .enum-told .given .1) ∙ alone-refused TextNotAccepted (ap not (sym (c .before .accepts-text .ensures) ∙ c .if1 .left))))
 -- src/luminaire_write.rt:501:1
 returns-3 : tie.Need-returns-3
-returns-3 c = ?
-
+returns-3 c =
+    let w = c .before .before .before in
+    let a = w .before .before .args in
+    rw (refused-behind (a .layout) (a .field) _ (sym (w .check-writable .ensures) ∙ c .before .refusal .given .1))
 pub text-refusal-spec : {M : Type 1} → statement M
 text-refusal-spec =
     tie.close

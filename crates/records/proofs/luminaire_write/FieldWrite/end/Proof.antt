@@ -4,6 +4,10 @@ use Rattle.records.proofs.luminaire_write.FieldWrite.end.Tie as tie
 use Rattle.records.proofs.luminaire_write.FieldWrite.end.Reads as reads
 use Rattle.records.proofs.luminaire_write.FieldWrite.end.Lts as lts
 use Rattle.bank.proofs.luminaire_write.LuminaireField.of_index.Reads as of-index-reads
+use mathlib.Core.Path.{_≡_, refl, sym, ap, _∙_}
+use lib.ListN.{getElem?}
+use Rattle.bank.specs.Fields.{luminaireFields}
+use Rattle.bank.proofs.Options.{told-field}
 
 -- src/luminaire_write.rt:229:49
 of-index-requires : tie.Need-of-index-requires
@@ -19,8 +23,7 @@ enum-told c = search needs
 
 -- src/luminaire_write.rt:230:13
 returns : tie.Need-returns
-returns c = ?
-
+returns c = rw (told-field (getElem? luminaireFields (c .before .before .before .args .self .field)) (c .before .before .of-index .ensures) (c .enum-told .given .1))
 -- src/luminaire_write.rt:232:27
 cast-t4 : tie.Need-cast-t4
 cast-t4 c = search needs
@@ -35,8 +38,9 @@ add-t6 c = search needs
 
 -- src/luminaire_write.rt:226:5
 returns-2 : tie.Need-returns-2
-returns-2 c = ?
-
+returns-2 c =
+    let i = c .before .before .before .before .before in
+    rw (told-field (getElem? luminaireFields (i .before .args .self .field)) (i .of-index .ensures) (c .before .before .before .field .given .1))
 pub end-spec : {M : Type 1} → statement M
 end-spec =
     tie.close

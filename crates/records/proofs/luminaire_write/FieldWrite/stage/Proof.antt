@@ -5,6 +5,11 @@ use Rattle.records.proofs.luminaire_write.FieldWrite.stage.Reads as rea
 use Rattle.records.proofs.luminaire_write.FieldWrite.stage.Lts as lts
 use Rattle.bank.proofs.luminaire_write.LuminaireField.of_index.Reads as of-index-reads
 use Rattle.records.proofs.luminaire_write.stage_of.Reads as stage-of-reads
+use mathlib.Core.Path.{_≡_, refl, sym, ap, _∙_}
+use lib.ListN.{getElem?}
+use Rattle.bank.specs.Fields.{luminaireFields}
+use Rattle.bank.proofs.Options.{told-field}
+use Rattle.records.proofs.Table.{within-bank}
 
 -- src/luminaire_write.rt:266:49
 of-index-requires : tie.Need-of-index-requires
@@ -20,16 +25,17 @@ enum-told c = search needs
 
 -- src/luminaire_write.rt:267:13
 returns : tie.Need-returns
-returns c = ?
-
+returns c = rw (told-field (getElem? luminaireFields (c .before .before .before .args .self .field)) (c .before .before .of-index .ensures) (c .enum-told .given .1))
 -- src/luminaire_write.rt:269:9
 stage-of-requires : tie.Need-stage-of-requires
-stage-of-requires c κs = ?
-
+stage-of-requires c κs =
+    let i = c .before .before .before in
+    within-bank (i .before .args .self .field) (told-field (getElem? luminaireFields (i .before .args .self .field)) (i .of-index .ensures) (c .before .field .given .1))
 -- src/luminaire_write.rt:263:5
 returns-2 : tie.Need-returns-2
-returns-2 c = ?
-
+returns-2 c =
+    let i = c .before .before .before .before in
+    rw (told-field (getElem? luminaireFields (i .before .args .self .field)) (i .of-index .ensures) (c .before .before .field .given .1)) (c .stage-of .ensures)
 pub stage-spec : {M : Type 1} → statement M
 stage-spec =
     tie.close

@@ -5,6 +5,10 @@ use Rattle.records.proofs.luminaire_write.FieldWrite.stages.Reads as re
 use Rattle.records.proofs.luminaire_write.FieldWrite.stages.Lts as lts
 use Rattle.bank.proofs.luminaire_write.LuminaireField.of_index.Reads as of-index-reads
 use Rattle.records.proofs.luminaire_write.is_staged.Reads as is-staged-reads
+use mathlib.Core.Path.{_≡_, refl, sym, ap, _∙_}
+use lib.ListN.{getElem?}
+use Rattle.bank.specs.Fields.{luminaireFields}
+use Rattle.bank.proofs.Options.{told-field}
 
 -- src/luminaire_write.rt:256:49
 of-index-requires : tie.Need-of-index-requires
@@ -20,20 +24,21 @@ enum-told c = search needs
 
 -- src/luminaire_write.rt:257:13
 returns : tie.Need-returns
-returns c = ?
-
+returns c = rw (told-field (getElem? luminaireFields (c .before .before .before .args .self .field)) (c .before .before .of-index .ensures) (c .enum-told .given .1))
 -- src/luminaire_write.rt:259:12
 is-staged-requires : tie.Need-is-staged-requires
 is-staged-requires c κs = search needs
 
 -- src/luminaire_write.rt:253:5
 returns-2 : tie.Need-returns-2
-returns-2 c = ?
-
+returns-2 c =
+    let i = c .before .before .before .before .before in
+    rw (told-field (getElem? luminaireFields (i .before .args .self .field)) (i .of-index .ensures) (c .before .before .before .field .given .1), sym (c .before .is-staged .ensures) ∙ c .if1 .taken)
 -- src/luminaire_write.rt:253:5
 returns-3 : tie.Need-returns-3
-returns-3 c = ?
-
+returns-3 c =
+    let i = c .before .before .before .before .before in
+    rw (told-field (getElem? luminaireFields (i .before .args .self .field)) (i .of-index .ensures) (c .before .before .before .field .given .1), sym (c .before .is-staged .ensures) ∙ c .if1 .left)
 pub stages-spec : {M : Type 1} → statement M
 stages-spec =
     tie.close

@@ -4,6 +4,9 @@ use Rattle.records.proofs.luminaire_write.LuminaireNumbers.of_field.Tie
 use Rattle.records.proofs.luminaire_write.LuminaireNumbers.of_field.Reads as reads
 use Rattle.records.proofs.luminaire_write.LuminaireNumbers.of_field.Lts as lts
 use Rattle.records.proofs.luminaire_write.LuminaireNumbers.of_patch.Reads as of-patch-reads
+use mathlib.Core.Path.{sym, ap, _∙_}
+use Rattle.bank.specs.Options.{optionU32}
+use Rattle.records.specs.Writes.{wantedNumber}
 
 -- src/luminaire_write.rt:100:36
 enum-told : tie.Need-enum-told
@@ -27,8 +30,9 @@ returns c = search needs
 
 -- src/luminaire_write.rt:95:5
 returns-2 : tie.Need-returns-2
-returns-2 c = ?
-
+returns-2 c =
+    let k = c .before .before in
+    rw (k .kind .given .1) (c .of-patch .ensures)
 -- src/luminaire_write.rt:95:5
 returns-3 : tie.Need-returns-3
 returns-3 c = search needs

@@ -6,6 +6,22 @@ use Rattle.records.proofs.luminaire_write.Plan.field_refusal.Lts as lts
 use Rattle.records.proofs.luminaire_write.Plan.wanted_refusal.Reads as wanted-refusal-reads
 use Rattle.records.proofs.luminaire_write.is_for.Reads as is-for-reads
 use Rattle.records.proofs.luminaire_write.text_refusal.Reads as text-refusal-reads
+use mathlib.Core.Path.{_≡_, refl, sym, ap, _∙_}
+use mathlib.Core.List.{List}
+use borrow.Author.Tests.{not-true, not-false}
+use Rattle.bank.specs.Refusal.{Check, firstOf}
+use Rattle.bank.specs.Options.{optionRefusal}
+use Rattle.bank.proofs.Options.{told-refusal}
+use Rattle.bank.proofs.Checks.{refused-first, passed-first}
+use Rattle.records.specs.Writes.{wantedNumber}
+use Rattle.records.specs.Plan.{ifWanted, numberChecks}
+use Rattle.records.proofs.Refusals.{first-none}
+
+-- the checks of the wanted number
+abbrev checks : (c : tie.After-wanted-refusal) → List Check
+checks c =
+    let a = c .before .before .args in
+    ifWanted (wantedNumber (a .self .numbers) (a .field .kind)) (numberChecks (a .self .layout) (a .field))
 
 -- src/luminaire_write.rt:538:47
 wanted-refusal-requires : tie.Need-wanted-refusal-requires
@@ -17,8 +33,9 @@ enum-known-refusal c = search needs
 
 -- src/luminaire_write.rt:539:13
 returns : tie.Need-returns
-returns c = ?
-
+returns c =
+    let w = c .before .before .before in
+    rw (refused-first (checks w) _ (told-refusal (firstOf (checks w)) (w .wanted-refusal .ensures) (c .before .refusal .given .1)))
 enum-told : tie.Need-enum-told
 enum-told c = search needs
 
@@ -28,16 +45,18 @@ is-for-requires c κs = search needs
 
 -- src/luminaire_write.rt:543:13
 returns-2 : tie.Need-returns-2
-returns-2 c = ?
-
+returns-2 c =
+    let w = c .before .before .before .before in
+    rw (passed-first (checks w) _ (told-refusal (firstOf (checks w)) (w .wanted-refusal .ensures) (c .before .before .enum-told .given .1)), sym (c .before .is-for .ensures) ∙ not-true _ (c .if1 .taken)) (ap optionRefusal (sym first-none))
 -- src/luminaire_write.rt:545:9
 text-refusal-requires : tie.Need-text-refusal-requires
 text-refusal-requires c κs = search needs
 
 -- src/luminaire_write.rt:535:5
 returns-3 : tie.Need-returns-3
-returns-3 c = ?
-
+returns-3 c =
+    let w = c .before .before .before .before .before in
+    rw (passed-first (checks w) _ (told-refusal (firstOf (checks w)) (w .wanted-refusal .ensures) (c .before .before .before .enum-told .given .1)), sym (c .before .before .is-for .ensures) ∙ not-false _ (c .before .if1 .left)) (c .text-refusal .ensures)
 pub field-refusal-spec : {M : Type 1} → statement M
 field-refusal-spec =
     tie.close

@@ -3,6 +3,7 @@ use Rattle.records.proofs.luminaire_write.Plan.has_unknown_field.Statem
 use Rattle.records.proofs.luminaire_write.Plan.has_unknown_field.Tie as tie
 use Rattle.records.proofs.luminaire_write.Plan.has_unknown_field.Reads as reads
 use Rattle.records.proofs.luminaire_write.Plan.has_unknown_field.Lts as lts
+use mathlib.Core.Path.{refl}
 
 -- src/luminaire_write.rt:568:31
 enum-known-text-field : tie.Need-enum-known-text-field
@@ -14,8 +15,7 @@ enum-told c = search needs
 
 -- src/luminaire_write.rt:563:5
 returns : tie.Need-returns
-returns c = ?
-
+returns c = rw (c .before .text-field .given .1)
 -- src/luminaire_write.rt:563:5
 returns-2 : tie.Need-returns-2
 returns-2 c = search needs

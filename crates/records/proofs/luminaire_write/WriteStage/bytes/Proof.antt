@@ -5,6 +5,7 @@ use Rattle.records.proofs.luminaire_write.WriteStage.bytes.Reads as rea
 use Rattle.records.proofs.luminaire_write.WriteStage.bytes.Lts as lts
 use Rattle.records.proofs.luminaire_write.head.Reads as head-reads
 use Rattle.records.proofs.luminaire_write.tail.Reads as tail-reads
+use mathlib.Core.Path.{_≡_, ap, _∙_}
 
 -- src/luminaire_write.rt:166:38
 enum-told : tie.Need-enum-told
@@ -40,12 +41,10 @@ returns-2 c = search needs
 
 -- src/luminaire_write.rt:161:5
 returns-3 : tie.Need-returns-3
-returns-3 c = ?
-
+returns-3 c = rw (c .before .enum-told3 .given .1) (c .tail .ensures)
 -- src/luminaire_write.rt:161:5
 returns-4 : tie.Need-returns-4
-returns-4 c = ?
-
+returns-4 c = rw (c .before .enum-told4 .given .1) (c .head .ensures)
 pub bytes-spec : {M : Type 1} → statement M
 bytes-spec =
     tie.close

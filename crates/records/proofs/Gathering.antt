@@ -1,0 +1,53 @@
+-- Laws of what the fields give one after the other, and of what a list's elements give.
+-- Assumes nothing.
+use mathlib.Core.Path.{_≡_, refl, sym, ap, _∙_}
+use mathlib.Core.List.{List, [], _∷_, _++_, append-assoc, append-nil}
+use mathlib.Core.Option.{Option, none, some}
+use Prim.Native.Nat.{ℕ, zero, suc, _+_, _≤_, _<_}
+use native.Mathlib.Nat.{le-of-suc-le-suc, not-suc-le-zero}
+use native.Mathlib.Omega.{arith}
+use lib.ListN.{length, take, drop, getD, getElem?}
+use lib.Seq.{take-nil}
+use Rattle.bus.proofs.Lists.{no-element}
+use Rattle.bank.specs.declared.luminaire_write.LuminaireField.{LuminaireField}
+use Rattle.records.specs.Writes.{gather, flat}
+
+module _ {A B : Type 0} (g : A → List B) where
+  pub flat-append : (xs ys : List A) → flat g (xs ++ ys) ≡ flat g xs ++ flat g ys
+  flat-append [] ys = refl
+  flat-append (x ∷ xs) ys = ap (λ (r : List B). g x ++ r) (flat-append xs ys) ∙ sym (append-assoc (g x) (flat g xs) (flat g ys))
+
+  -- one more element, where there is one
+  pub flat-next : (xs : List A) (i : ℕ) {x : A} → getElem? xs i ≡ some x → flat g (take (suc i) xs) ≡ flat g (take i xs) ++ g x
+  flat-next [] i e = no-element e
+  flat-next (y ∷ xs) zero e = append-nil (g y) ∙ (let same : y ≡ _ = cc in ap g same)
+  flat-next (y ∷ xs) (suc i) {x} e = ap (λ (r : List B). g y ++ r) (flat-next xs i e) ∙ sym (append-assoc (g y) (flat g (take i xs)) (g x))
+
+  pub flat-done : (xs : List A) (i : ℕ) → getElem? xs i ≡ none → flat g (take (suc i) xs) ≡ flat g (take i xs)
+  flat-done [] i e = rw take-nil
+  flat-done (y ∷ xs) zero e = no-element (sym e)
+  flat-done (y ∷ xs) (suc i) e = ap (λ (r : List B). g y ++ r) (flat-done xs i e)
+
+pub flat-gather : {A B : Type 0} (h : A → List B) (g : ℕ → LuminaireField → List A) (fs : List LuminaireField) → flat h (gather g fs) ≡ gather (λ i f. flat h (g i f)) fs
+flat-gather h g [] = refl
+flat-gather h g (f ∷ fs) = flat-append h (g 0 f) (gather (λ i. g (suc i)) fs) ∙ ap (λ r. flat h (g 0 f) ++ r) (flat-gather h (λ i. g (suc i)) fs)
+
+module _ {A : Type 0} where
+  -- one more field
+  pub gather-next : (g : ℕ → LuminaireField → List A) (fs : List LuminaireField) (i : ℕ) (d : LuminaireField) → i < length fs
+      → gather g (take (suc i) fs) ≡ gather g (take i fs) ++ g i (getD fs i d)
+  gather-next g [] i d h = absurd (not-suc-le-zero h)
+  gather-next g (f ∷ fs) zero d h = append-nil (g 0 f)
+  gather-next g (f ∷ fs) (suc i) d h =
+      ap (λ (r : List A). g 0 f ++ r) (gather-next (λ i. g (suc i)) fs i d (le-of-suc-le-suc h))
+      ∙ sym (append-assoc (g 0 f) (gather (λ i. g (suc i)) (take i fs)) (g (suc i) (getD fs i d)))
+
+  -- the first fields come first
+  pub gather-front : (g : ℕ → LuminaireField → List A) (fs : List LuminaireField) (i : ℕ) → (rest : List A) × (gather g fs ≡ gather g (take i fs) ++ rest)
+  gather-front g fs zero = (gather g fs, refl)
+  gather-front g [] (suc i) = ([], refl)
+  gather-front g (f ∷ fs) (suc i) =
+      let r = gather-front (λ i. g (suc i)) fs i in (
+        r .0,
+        ap (λ (l : List A). g 0 f ++ l) (r .1) ∙ sym (append-assoc (g 0 f) (gather (λ i. g (suc i)) (take i fs)) (r .0)),
+      )

@@ -1,0 +1,42 @@
+-- Laws of bytes laid one behind the other into a slice, as far as it goes.
+-- Assumes nothing.
+use mathlib.Core.Path.{_≡_, refl, sym, ap, _∙_}
+use mathlib.Core.List.{List, [], _∷_, _++_}
+use Prim.Native.Nat.{ℕ, zero, suc, _+_, _≤_, _<_}
+use native.Mathlib.Nat.{add-zero, add-suc, suc-add}
+use native.Mathlib.Numerals.{add-one}
+use native.Mathlib.Omega.{arith}
+use lib.ListN.{length, take, drop, set, getD}
+use lib.Seq.{sets, take-nil, take-suc, take-at, length-take-le}
+use Rattle.bus.specs.Value.{laidInto}
+use Rattle.bus.proofs.Lists.{laid-whole}
+
+module _ {A : Type 0} where
+  pub sets-append : (l : List A) (i : ℕ) (xs ys : List A) → sets l i (xs ++ ys) ≡ sets (sets l i xs) (i + length xs) ys
+  sets-append l i [] ys = rw add-zero
+  sets-append l i (x ∷ xs) ys = sets-append (set l i x) (suc i) xs ys ∙ rw (suc-add, add-suc)
+
+  sets-empty : (i : ℕ) (xs : List A) → sets [] i xs ≡ []
+  sets-empty i [] = refl
+  sets-empty i (x ∷ xs) = sets-empty (suc i) xs
+
+  sets-cons : (y : A) (l : List A) (i : ℕ) (xs : List A) → sets (y ∷ l) (suc i) xs ≡ y ∷ sets l i xs
+  sets-cons y l i [] = refl
+  sets-cons y l i (x ∷ xs) = sets-cons y (set l i x) (suc i) xs
+
+  -- one more of a list's elements
+  pub sets-next : (l : List A) (at i : ℕ) (xs : List A) (d : A) → i < length xs → set (sets l at (take i xs)) (at + i) (getD xs i d) ≡ sets l at (take (i + 1) xs)
+  sets-next l at i xs d h =
+      ap (λ (n : ℕ). set (sets l at (take i xs)) (at + n) (getD xs i d)) (sym (length-take-le i xs (omega arith)))
+      ∙ sym (sets-append l at (take i xs) (getD xs i d ∷ []))
+      ∙ rw (add-one, take-suc xs i d h)
+
+-- from the first index on
+pub sets-laid : (xs out : List ℕ) → sets out 0 xs ≡ laidInto xs out
+sets-laid [] out = rw take-nil
+sets-laid (x ∷ xs) [] = sets-empty 1 xs
+sets-laid (x ∷ xs) (y ∷ out) = sets-cons x out 0 xs ∙ ap (λ (l : List ℕ). x ∷ l) (sets-laid xs out)
+
+-- what was laid is there
+pub front-laid : (xs out : List ℕ) → length xs ≤ length out → take (length xs) (sets out 0 xs) ≡ xs
+front-laid xs out h = rw (sets-laid xs out, laid-whole xs out h) (take-at xs (drop (length xs) out) (length xs) refl)

@@ -1,0 +1,52 @@
+-- The rule of the table of fields that the plan needs: each field's offsets are bytes. Computed once over the whole table.
+-- Assumes nothing.
+use mathlib.Core.Path.{_≡_, refl, sym, subst}
+use mathlib.Core.Bool.{Bool, true, false, _&&_, true≢false}
+use mathlib.Core.List.{List, [], _∷_}
+use mathlib.Core.Option.{Option, none, some}
+use Prim.Native.Nat.{ℕ, zero, suc, _≤_, _<_}
+use native.Mathlib.Nat.{le-of-suc-le-suc, not-suc-le-zero}
+use borrow.Author.Tests.{leb-true}
+use lib.Dec.{leb, lit≤}
+use lib.ListN.{length, getD, getElem?, take}
+use Rattle.bus.proofs.Lists.{no-element, entry-in}
+use Rattle.bank.specs.declared.luminaire_write.LuminaireField.{LuminaireField}
+use Rattle.bank.specs.Fields.{luminaireFields, fieldEnd}
+use Rattle.records.specs.Steps.{WithinBank}
+
+abbrev allWithin : List LuminaireField → Bool
+allWithin [] = true
+allWithin (f ∷ fs) = (leb (f .offset) 254 && leb (fieldEnd f) 256) && allWithin fs
+
+first-true : (a b : Bool) → (a && b) ≡ true → a ≡ true
+first-true true b e = refl
+first-true false b e = e
+
+second-true : (a b : Bool) → (a && b) ≡ true → b ≡ true
+second-true true b e = e
+second-true false b e = absurd (true≢false (sym e))
+
+entry-within : {f : LuminaireField} (fs : List LuminaireField) (i : ℕ) → allWithin fs ≡ true → getElem? fs i ≡ some f → WithinBank f
+entry-within [] i t e = no-element e
+entry-within {f} (g ∷ fs) zero t e =
+    let same : g ≡ f = cc in
+    let h = first-true (leb (g .offset) 254 && leb (fieldEnd g) 256) (allWithin fs) t in
+    subst WithinBank same (record {
+      starts = leb-true (g .offset) 254 (first-true (leb (g .offset) 254) (leb (fieldEnd g) 256) h);
+      ends = leb-true (fieldEnd g) 256 (second-true (leb (g .offset) 254) (leb (fieldEnd g) 256) h);
+    })
+entry-within (g ∷ fs) (suc i) t e = entry-within fs i (second-true (leb (g .offset) 254 && leb (fieldEnd g) 256) (allWithin fs) t) e
+
+-- by index
+pub within-bank : {f : LuminaireField} (i : ℕ) → getElem? luminaireFields i ≡ some f → WithinBank f
+unfolding luminaireFields
+within-bank i e = entry-within luminaireFields i refl e
+
+-- in a loop over the table
+pub table-entry : (i : ℕ) (d : LuminaireField) → i < 18 → getElem? luminaireFields i ≡ some (getD luminaireFields i d)
+unfolding luminaireFields
+table-entry i d h = sym (entry-in luminaireFields 18 i d h (lit≤ tt))
+
+pub table-length : length luminaireFields ≡ 18
+unfolding luminaireFields
+table-length = refl
