@@ -3,7 +3,7 @@
 use mathlib.Core.Path.{_≡_, refl, sym, ap, _∙_}
 use mathlib.Core.List.{List, [], _∷_, _++_}
 use Prim.Native.Nat.{ℕ, zero, suc, _+_, _≤_, _<_}
-use native.Mathlib.Nat.{add-zero, add-suc, suc-add}
+use native.Mathlib.Nat.{zero-add, add-zero, add-suc, suc-add}
 use native.Mathlib.Numerals.{add-one}
 use native.Mathlib.Omega.{arith}
 use lib.ListN.{length, take, drop, set, getD}
@@ -31,7 +31,13 @@ module _ {A : Type 0} where
       ∙ sym (sets-append l at (take i xs) (getD xs i d ∷ []))
       ∙ rw (add-one, take-suc xs i d h)
 
--- from the first index on
+  -- from the first index on
+  pub fill-next : (l : List A) (i : ℕ) (xs : List A) (d : A) → i < length xs → set (sets l 0 (take i xs)) i (getD xs i d) ≡ sets l 0 (take (i + 1) xs)
+  fill-next l i xs d h = ap (λ (n : ℕ). set (sets l 0 (take i xs)) n (getD xs i d)) (sym (zero-add i)) ∙ sets-next l 0 i xs d h
+
+  pub fill-more : (l xs : List A) (x : A) → set (sets l 0 xs) (length xs) x ≡ sets l 0 (xs ++ (x ∷ []))
+  fill-more l xs x = ap (λ (n : ℕ). set (sets l 0 xs) n x) (sym (zero-add (length xs))) ∙ sym (sets-append l 0 xs (x ∷ []))
+
 pub sets-laid : (xs out : List ℕ) → sets out 0 xs ≡ laidInto xs out
 sets-laid [] out = rw take-nil
 sets-laid (x ∷ xs) [] = sets-empty 1 xs

@@ -65,20 +65,20 @@ module _ (l : Bank1Layout) (f : LuminaireField) where
   pub rejects-is : {v : LuminaireFormat} {b : Bool} (value : ℕ) → checkWritable l f ≡ Ok v → acceptsNumber f v value ≡ b → rejects (formatIn (l .«content_format_id»)) f value ≡ not b
   rejects-is value e a = rw (writable-told e .1, a)
 
--- the checks of all fields, one field after the other
-module _ (g : ℕ → LuminaireField → List Check) (i : ℕ) (d : LuminaireField) (few : i < 18) (before : firstOf (gather g (take i luminaireFields)) ≡ none) where
-  next : gather g (take (i + 1) luminaireFields) ≡ gather g (take i luminaireFields) ++ g i (getD luminaireFields i d)
-  next = ap (λ (n : ℕ). gather g (take n luminaireFields)) (add-one i) ∙ gather-next g luminaireFields i d (rw table-length few)
+-- the checks of all fields, one field of the table after the other
+module _ (g : ℕ → LuminaireField → List Check) (t : List LuminaireField) (is : t ≡ luminaireFields) (i : ℕ) (d : LuminaireField) (few : i < 18) (before : firstOf (gather g (take i luminaireFields)) ≡ none) where
+  next : gather g (take (i + 1) luminaireFields) ≡ gather g (take i luminaireFields) ++ g i (getD t i d)
+  next = rw is (ap (λ (n : ℕ). gather g (take n luminaireFields)) (add-one i) ∙ gather-next g luminaireFields i d (rw table-length few))
 
-  pub field-passed : firstOf (g i (getD luminaireFields i d)) ≡ none → firstOf (gather g (take (i + 1) luminaireFields)) ≡ none
-  field-passed e = rw next (passed-first (gather g (take i luminaireFields)) (g i (getD luminaireFields i d)) before ∙ e)
+  pub field-passed : firstOf (g i (getD t i d)) ≡ none → firstOf (gather g (take (i + 1) luminaireFields)) ≡ none
+  field-passed e = rw next (passed-first (gather g (take i luminaireFields)) (g i (getD t i d)) before ∙ e)
 
-  pub field-refused : {r : Refusal} → firstOf (g i (getD luminaireFields i d)) ≡ some r → firstOf (gather g luminaireFields) ≡ some r
+  pub field-refused : {r : Refusal} → firstOf (g i (getD t i d)) ≡ some r → firstOf (gather g luminaireFields) ≡ some r
   field-refused e =
       let rest = gather-front g luminaireFields (i + 1) in
       rw (rest .1, next)
-      (refused-first (gather g (take i luminaireFields) ++ g i (getD luminaireFields i d)) (rest .0)
-      (passed-first (gather g (take i luminaireFields)) (g i (getD luminaireFields i d)) before ∙ e))
+      (refused-first (gather g (take i luminaireFields) ++ g i (getD t i d)) (rest .0)
+      (passed-first (gather g (take i luminaireFields)) (g i (getD t i d)) before ∙ e))
 
 pub fields-passed : (g : ℕ → LuminaireField → List Check) (i : ℕ) → 18 ≤ i → firstOf (gather g (take i luminaireFields)) ≡ none → firstOf (gather g luminaireFields) ≡ none
 fields-passed g i h e = rw (take-all i luminaireFields (rw table-length h)) at e

@@ -9,10 +9,15 @@ use native.Mathlib.Nat.{le-of-suc-le-suc, not-suc-le-zero}
 use borrow.Author.Tests.{leb-true}
 use lib.Dec.{leb, lit≤}
 use lib.ListN.{length, getD, getElem?, take}
+use lib.Seq.{take-all}
 use Rattle.bus.proofs.Lists.{no-element, entry-in}
 use Rattle.bank.specs.declared.luminaire_write.LuminaireField.{LuminaireField}
 use Rattle.bank.specs.Fields.{luminaireFields, fieldEnd}
+use Rattle.bank.specs.declared.OptionUsize.{OptionUsize}
+use Rattle.records.specs.declared.luminaire_write.LuminaireNumbers.{LuminaireNumbers}
+use Rattle.records.specs.Writes.{gather, writesAt, plannedWrites, writeStores, storesAt, planStores}
 use Rattle.records.specs.Steps.{WithinBank}
+use Rattle.records.proofs.Gathering.{flat-gather}
 
 abbrev allWithin : List LuminaireField → Bool
 allWithin [] = true
@@ -50,3 +55,11 @@ table-entry i d h = sym (entry-in luminaireFields 18 i d h (lit≤ tt))
 pub table-length : length luminaireFields ≡ 18
 unfolding luminaireFields
 table-length = refl
+
+pub table-within : (t : List LuminaireField) → t ≡ luminaireFields → (i : ℕ) (d : LuminaireField) → i < 18 → WithinBank (getD t i d)
+table-within t e i d h = rw e (within-bank i (table-entry i d h))
+
+-- all planned stores, field by field
+pub all-stores : (n : LuminaireNumbers) (which : OptionUsize) (text : List ℕ) (i : ℕ) → 18 ≤ i → gather (storesAt n which text) (take i luminaireFields) ≡ planStores n which text
+unfolding planStores plannedWrites
+all-stores n which text i h = rw (take-all i luminaireFields (rw table-length h)) (sym (flat-gather writeStores (writesAt n which text) luminaireFields))

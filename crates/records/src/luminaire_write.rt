@@ -189,7 +189,7 @@ fn head(bytes: &[u8]) -> &[u8]
 }
 
 // DiiA 251 §9.2.5: whether a write of so many bytes is a text that could be read half written.
-fn is_staged(field: LuminaireField, len: u8) -> bool
+fn is_staged(field: LuminaireField, len: usize) -> bool
     ensures { λ r. ⌜ r ≡ isStaged (field .kind) len ⌝ }
 {
     let kind = field.kind;
@@ -201,7 +201,7 @@ fn is_staged(field: LuminaireField, len: u8) -> bool
 }
 
 // The stage at a place in the order of a write's stages: a text is emptied first and gets its first byte last.
-fn stage_of(index: usize, field: LuminaireField, len: u8, place: usize) -> OptionWriteStage
+fn stage_of(index: usize, field: LuminaireField, len: usize, place: usize) -> OptionWriteStage
     requires { ⌜ WithinBank field ⌝ }
     ensures { λ r. ⌜ r ≡ optionWriteStage (getElem? (stagesOf index field len) place) ⌝ }
 {
@@ -271,7 +271,11 @@ impl FieldWrite {
         let OptionLuminaireField::Some(field) = LuminaireField::of_index(self.field) else {
             return 0;
         };
-        if is_staged(field, self.len) { 3 } else { 1 }
+        if is_staged(field, self.len as usize) {
+            3
+        } else {
+            1
+        }
     }
 
     // The stage at a place in their order.
@@ -281,7 +285,7 @@ impl FieldWrite {
         let OptionLuminaireField::Some(field) = LuminaireField::of_index(self.field) else {
             return OptionWriteStage::None;
         };
-        stage_of(self.field, field, self.len, place)
+        stage_of(self.field, field, self.len as usize, place)
     }
 }
 
@@ -456,11 +460,10 @@ fn lay_write(
     ensures values { λ _. ⌜ now (values .exit) ≡ sets (now (values .entry)) count (valuesOf (writeStores (written index field (now (bytes .entry))))) ⌝ }
 {
     let terminator = [TEXT_TERMINATOR];
-    let len = bytes.len() as u8;
     let mut n = count;
     let mut place = 0;
     while place < 3 {
-        if let OptionWriteStage::Some(stage) = stage_of(index, field, len, place) {
+        if let OptionWriteStage::Some(stage) = stage_of(index, field, bytes.len(), place) {
             n = lay_stage(
                 stage.offset,
                 stage.bytes(bytes, &terminator),

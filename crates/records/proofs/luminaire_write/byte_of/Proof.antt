@@ -15,6 +15,7 @@ returns c =
     let a = c .before .args in
     let h : a .value < 2 ^ (8 * a .behind) = omega (arith, pow-mono {i = 32} {j = 8 * a .behind} (omega arith)) in
     rw (div-eq-of-lt h)
+
 -- src/luminaire_write.rt:295:17
 mul-result : tie.Need-mul-result
 mul-result c = search needs

@@ -12,9 +12,11 @@ use lib.Seq.{take-all, length-take-le}
 -- src/luminaire_write.rt:187:9
 returns : tie.Need-returns
 returns c = sym (take-all 1 (c .before .args .bytes .now) (omega arith))
+
 -- src/luminaire_write.rt:189:5
 slice-aggregate-result : tie.Need-slice-aggregate-result
 slice-aggregate-result c = sym (length-take-le 1 (c .before .before .args .bytes .now) (omega arith))
+
 -- src/luminaire_write.rt:183:1
 returns-2 : tie.Need-returns-2
 returns-2 c = search needs

@@ -16,6 +16,7 @@ enum-told c = search needs
 -- src/luminaire_write.rt:330:1
 returns : tie.Need-returns
 returns c = rw (c .before .text-field .given .1)
+
 -- src/luminaire_write.rt:330:1
 returns-2 : tie.Need-returns-2
 returns-2 c = search needs

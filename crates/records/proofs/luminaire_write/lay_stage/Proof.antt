@@ -16,56 +16,94 @@ use Rattle.records.proofs.Stores.{offsets-length, offsets-at, values-ar
 
 abbrev Inv-loop : tie.InvT-loop
 Inv-loop offset bytes offsets₀ values₀ count i₀ offsets values i = (i ≤ length bytes) × (offset + length bytes ≤ 256) × (count ≤ 65536) × (offsets ≡ sets offsets₀ count (take i (offsetsOf (singleBytes offset bytes)))) × (values ≡ sets values₀ count (take i bytes))
+
 abbrev μ-loop : tie.MeasureT-loop
 μ-loop offset bytes offsets₀ values₀ count i₀ offsets values i = length bytes - i
+
 -- src/luminaire_write.rt:406:5
 loop-holds : tie.Need-loop-holds Inv-loop μ-loop
-loop-holds c = (omega arith, c .before .before .pre .0, c .before .before .pre .1, refl, refl)
+loop-holds c = (omega arith, c .before .before .before .pre .0, c .before .before .before .pre .1, refl, refl)
+
 -- src/luminaire_write.rt:407:22
 add-put : tie.Need-add-put Inv-loop μ-loop
 add-put c = omega arith
+
 -- src/luminaire_write.rt:407:42
 cast-put : tie.Need-cast-put Inv-loop μ-loop
 cast-put c = omega arith
+
 -- src/luminaire_write.rt:407:33
 add-put-2 : tie.Need-add-put-2 Inv-loop μ-loop
 add-put-2 c = omega arith
+
 -- src/luminaire_write.rt:407:9
 put-requires : tie.Need-put-requires Inv-loop μ-loop
 put-requires c κs = search needs
+
 -- src/luminaire_write.rt:408:21
 add-put-3 : tie.Need-add-put-3 Inv-loop μ-loop
 add-put-3 c = omega arith
+
 -- src/luminaire_write.rt:408:32
 shared-slice-read-put : tie.Need-shared-slice-read-put Inv-loop μ-loop
 shared-slice-read-put c = omega arith
+
 -- src/luminaire_write.rt:408:9
 put-requires-2 : tie.Need-put-requires-2 Inv-loop μ-loop
 put-requires-2 c κs = search needs
+
 -- src/luminaire_write.rt:409:9
 add-i : tie.Need-add-i Inv-loop μ-loop
 add-i c = omega arith
+
 -- src/luminaire_write.rt:406:5
 loop-less : tie.Need-loop-less Inv-loop μ-loop
 loop-less c = omega arith
+
 -- src/luminaire_write.rt:406:5
 loop-again : tie.Need-loop-again Inv-loop μ-loop
-loop-again c = ?
+loop-again c =
+    let l = c .before .before .before .before .before .before .before .before .before .before in
+    let a = l .before .before .before .before .args in
+    let s = l .loop .inv in
+    let os = offsetsOf (singleBytes (a .offset) (a .bytes .now)) in (
+      omega arith,
+      s .1,
+      s .2,
+      c .before .before .before .before .before .before .before .put .ensures
+          ∙ ap (λ (r : List ℕ). set r (a .count + l .loop .i) (a .offset + l .loop .i)) (s .3)
+          ∙ ap (λ (v : ℕ). set (sets (a .offsets .now) (a .count) (take (l .loop .i) os)) (a .count + l .loop .i) v) (sym (offsets-at (a .offset) (a .bytes .now) (l .loop .i) (omega arith)))
+          ∙ sets-next (a .offsets .now) (a .count) (l .loop .i) os 0 (rw offsets-length (omega arith)),
+      c .before .before .put2 .ensures
+          ∙ ap (λ (r : List ℕ). set r (a .count + l .loop .i) (getD (a .bytes .now) (l .loop .i) 0)) (s .4)
+          ∙ sets-next (a .values .now) (a .count) (l .loop .i) (a .bytes .now) 0 (omega arith),
+    )
 
 -- src/luminaire_write.rt:411:5
 add-result : tie.Need-add-result Inv-loop μ-loop
 add-result c = omega arith
+
 -- src/luminaire_write.rt:399:1
 same-length : tie.Need-same-length Inv-loop μ-loop
-same-length c = ?
+same-length c = ap length (c .before .loop .inv .3) ∙ length-sets _ _ _
 
 -- src/luminaire_write.rt:399:1
 same-length-2 : tie.Need-same-length-2 Inv-loop μ-loop
-same-length-2 c = ?
+same-length-2 c = ap length (c .before .loop .inv .4) ∙ length-sets _ _ _
 
 -- src/luminaire_write.rt:399:1
 returns : tie.Need-returns Inv-loop μ-loop
-returns c = ?
+returns c =
+    let l = c .before in
+    let a = l .before .before .before .before .args in
+    let s = l .loop .inv in
+    let all : l .loop .i ≡ length (a .bytes .now) = omega arith in (
+      ap (λ (n : ℕ). a .count + n) all,
+      (
+        s .3 ∙ ap (λ (r : List ℕ). sets (a .offsets .now) (a .count) r) (take-all (l .loop .i) (offsetsOf (singleBytes (a .offset) (a .bytes .now))) (rw offsets-length (omega arith))),
+        s .4 ∙ ap (λ (r : List ℕ). sets (a .values .now) (a .count) r) (take-all (l .loop .i) (a .bytes .now) (omega arith) ∙ sym (values-are (a .offset) (a .bytes .now))),
+      ),
+    )
 
 pub lay-stage-spec : {M : Type 1} → statement M
 lay-stage-spec =

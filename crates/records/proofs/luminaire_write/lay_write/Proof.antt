@@ -5,76 +5,93 @@ use Rattle.records.proofs.luminaire_write.lay_write.Lts as lts
 use Rattle.records.proofs.luminaire_write.WriteStage.bytes.Reads as bytes-reads
 use Rattle.records.proofs.luminaire_write.lay_stage.Reads as lay-stage-reads
 use Rattle.records.proofs.luminaire_write.stage_of.Reads as stage-of-reads
+use mathlib.Core.Path.{_≡_, refl, sym, ap, _∙_}
+use mathlib.Core.Logic.{⊎-elim}
+use mathlib.Core.List.{List, [], _∷_}
+use Prim.Native.Nat.{ℕ, _+_, _-_, _*_, _≤_}
+use native.Mathlib.Omega.{arith}
+use borrow.Author.Needs.{needs}
+use lib.ListN.{length, take, getElem?}
+use lib.Seq.{sets, take-all}
+use Rattle.records.specs.Steps.{WithinBank}
+use Rattle.records.specs.Writes.{flat, stagesOf, partOf, stageStores}
+use Rattle.records.proofs.Options.{told-stage}
+use Rattle.records.proofs.Stages.{single-count, stage-fits, few-stages}
+use Rattle.records.proofs.Stores.{Laid, none-laid, laid-same, laid-as, next-laid, none-next, stage-laid, offsets-kept, values-kept}
 
 abbrev Inv-loop : tie.InvT-loop
-Inv-loop index field bytes offsets₀ values₀ count terminator len n₀ place₀ offsets values n place =
-    ?
-
+Inv-loop index field bytes offsets₀ values₀ count terminator n₀ place₀ offsets values n place = (place ≤ 3) × (WithinBank field) × (length bytes ≤ field .len) × (n ≤ 65000 + 256 * place) × Laid offsets₀ values₀ count (flat (stageStores bytes) (take place (stagesOf index field (length bytes)))) offsets values n
 abbrev μ-loop : tie.MeasureT-loop
-μ-loop index field bytes offsets₀ values₀ count terminator len n₀ place₀ offsets values n place = ?
-
--- src/luminaire_write.rt:459:15
-cast-len : tie.Need-cast-len Inv-loop μ-loop
-cast-len c = ?
-
--- src/luminaire_write.rt:462:5
+μ-loop index field bytes offsets₀ values₀ count terminator n₀ place₀ offsets values n place = 3 - place
+-- src/luminaire_write.rt:465:5
 loop-holds : tie.Need-loop-holds Inv-loop μ-loop
-loop-holds c = ?
-
--- src/luminaire_write.rt:463:48
+loop-holds c =
+    let s = c .before .before .before in
+    (omega arith, s .pre .0, s .pre .1 .0, s .pre .1 .1, none-laid)
+-- src/luminaire_write.rt:466:48
 stage-of-requires : tie.Need-stage-of-requires Inv-loop μ-loop
-stage-of-requires c κs = ?
-
--- src/luminaire_write.rt:463:39
+stage-of-requires c κs = c .before .loop .inv .1
+-- src/luminaire_write.rt:466:39
 enum-known-stage : tie.Need-enum-known-stage Inv-loop μ-loop
-enum-known-stage c = ?
-
--- src/luminaire_write.rt:466:36
+enum-known-stage c = search needs
+-- src/luminaire_write.rt:469:36
 slice-aggregate-bytes : tie.Need-slice-aggregate-bytes Inv-loop μ-loop
-slice-aggregate-bytes c = ?
-
--- src/luminaire_write.rt:466:17
+slice-aggregate-bytes c = search needs
+-- src/luminaire_write.rt:469:17
 bytes-requires : tie.Need-bytes-requires Inv-loop μ-loop
-bytes-requires c κs = ?
-
--- src/luminaire_write.rt:464:13
+bytes-requires c κs = search needs
+-- src/luminaire_write.rt:467:13
 lay-stage-requires : tie.Need-lay-stage-requires Inv-loop μ-loop
-lay-stage-requires c κs = ?
-
+lay-stage-requires c κs =
+    let g = c .before .before .before .before .before in
+    let l = g .before .before .before .before in
+    let a = l .before .before .before .before .args in
+    let fits = stage-fits (a .index) (a .field) (a .bytes .now) (l .loop .inv .1) (l .loop .inv .2) (l .loop .place) (told-stage _ (g .before .before .stage-of .ensures) (g .stage .given .1)) in
+    (rw (c .before .before .bytes .ensures) fits, omega (arith, l .loop .inv .3))
 enum-told : tie.Need-enum-told Inv-loop μ-loop
-enum-told c = ?
-
--- src/luminaire_write.rt:472:9
+enum-told c = search needs
+-- src/luminaire_write.rt:475:9
 add-place : tie.Need-add-place Inv-loop μ-loop
-add-place c = ?
-
--- src/luminaire_write.rt:462:5
+add-place c = omega arith
+-- src/luminaire_write.rt:465:5
 loop-less : tie.Need-loop-less Inv-loop μ-loop
-loop-less c = ?
-
--- src/luminaire_write.rt:462:5
+loop-less c = omega arith
+-- src/luminaire_write.rt:465:5
 loop-again : tie.Need-loop-again Inv-loop μ-loop
-loop-again c = ?
-
--- src/luminaire_write.rt:445:1
+loop-again c =
+    let l = c .before .before .before in
+    let s = l .loop .inv in
+    let a = l .before .before .before .before .args in
+    let ss = stagesOf (a .index) (a .field) (length (a .bytes .now)) in
+    ⊎-elim
+    (λ t.
+    let told = told-stage (getElem? ss (l .loop .place)) (c .before .stage-of .ensures) (t .1 .given .1) in
+    let fits = stage-fits (a .index) (a .field) (a .bytes .now) (s .1) (s .2) (l .loop .place) told in
+    let d : Laid (l .loop .offsets) (l .loop .values) (l .loop .n) (stageStores (a .bytes .now) (t .1 .given .0 .0)) (c .match .offsets) (c .match .values) (c .match .n) = stage-laid (t .1 .given .0 .0 .offset) (t .4 .ensures) (t .14 ∙ t .7 .ensures .0) (t .12 ∙ t .7 .ensures .1 .0) (t .13 ∙ t .7 .ensures .1 .1) in
+    (omega arith, s .1, s .2, omega (arith, s .3, fits, d .count, single-count (t .1 .given .0 .0 .offset) (partOf (t .1 .given .0 .0 .part) (a .bytes .now) (0 ∷ []))), next-laid (stageStores (a .bytes .now)) ss (l .loop .place) (s .4) told d))
+    (λ t.
+    let told = told-stage (getElem? ss (l .loop .place)) (c .before .stage-of .ensures) (t .1 .given .1) in
+    (omega arith, s .1, s .2, omega (arith, s .3, t .4), laid-as (t .2) (t .3) (t .4) (none-next (stageStores (a .bytes .now)) ss (l .loop .place) (s .4) told)))
+    (c .match .came)
+-- src/luminaire_write.rt:449:1
 same-length : tie.Need-same-length Inv-loop μ-loop
-same-length c = ?
-
--- src/luminaire_write.rt:445:1
+same-length c = offsets-kept (c .before .loop .inv .4)
+-- src/luminaire_write.rt:449:1
 same-length-2 : tie.Need-same-length-2 Inv-loop μ-loop
-same-length-2 c = ?
-
--- src/luminaire_write.rt:445:1
+same-length-2 c = values-kept (c .before .loop .inv .4)
+-- src/luminaire_write.rt:449:1
 returns : tie.Need-returns Inv-loop μ-loop
-returns c = ?
-
+returns c =
+    let l = c .before in
+    let a = l .before .before .before .before .args in
+    let d = laid-same (ap (flat (stageStores (a .bytes .now))) (take-all (l .loop .place) (stagesOf (a .index) (a .field) (length (a .bytes .now))) (omega (arith, few-stages (a .index) (a .field) (length (a .bytes .now)))))) (l .loop .inv .4) in
+    (d .count, (d .offsets, d .values))
 pub lay-write-spec : {M : Type 1} → statement M
 lay-write-spec =
     tie.close
     (tie.spec
     Inv-loop
     μ-loop
-    cast-len
     loop-holds
     stage-of-requires
     enum-known-stage

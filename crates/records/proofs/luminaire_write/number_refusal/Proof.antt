@@ -31,6 +31,7 @@ returns c =
     let a = w .before .args in
     let ok = sym (w .check-writable .ensures) ∙ c .before .before .before .format .given .1 in
     sym (ap optionRefusal (passed-behind (a .layout) (a .field) _ ok ∙ alone-passed NumberNotAccepted (rejects-is (a .layout) (a .field) (a .value) ok (sym (c .before .accepts-number .ensures) ∙ c .if1 .taken))))
+
 -- src/luminaire_write.rt:496:36
 enum-known-refusal : tie.Need-enum-known-refusal
 enum-known-refusal c = search needs
@@ -42,12 +43,14 @@ returns-2 c =
     let a = w .before .args in
     let ok = sym (w .check-writable .ensures) ∙ c .before .before .before .format .given .1 in
     sym (ap optionRefusal (passed-behind (a .layout) (a .field) _ ok ∙ alone-refused NumberNotAccepted (rejects-is (a .layout) (a .field) (a .value) ok (sym (c .before .accepts-number .ensures) ∙ c .if1 .left))))
+
 -- src/luminaire_write.rt:486:1
 returns-3 : tie.Need-returns-3
 returns-3 c =
     let w = c .before .before .before in
     let a = w .before .args in
     rw (refused-behind (a .layout) (a .field) _ (sym (w .check-writable .ensures) ∙ c .before .refusal .given .1))
+
 pub number-refusal-spec : {M : Type 1} → statement M
 number-refusal-spec =
     tie.close

@@ -7,6 +7,7 @@ use Rattle.records.proofs.luminaire_write.byte_of.Reads as byte-of-read
 use Rattle.records.proofs.luminaire_write.put.Reads as put-reads
 use mathlib.Core.Path.{_≡_, refl, sym, ap, _∙_}
 use mathlib.Core.List.{List}
+use mathlib.Core.Option.{none, some}
 use Prim.Native.Nat.{ℕ, _+_, _-_, _*_, _/_, _%_, _^_, _≤_, _<_}
 use native.Mathlib.Omega.{arith}
 use borrow.Author.Needs.{needs}
@@ -15,61 +16,94 @@ use lib.Seq.{sets, take-all, length-sets}
 use Rattle.bus.specs.Number.{lowBytes}
 use Rattle.bus.proofs.Number.{length-lowBytes, lowBytes-at}
 use Rattle.bank.proofs.Options.{told-u32}
-use Rattle.records.specs.Writes.{wantedNumber}
-use Rattle.records.proofs.Laying.{sets-next}
+use Rattle.records.specs.Writes.{wantedNumber, numberBytes}
+use Rattle.records.proofs.Laying.{fill-next}
 
 abbrev Inv-loop : tie.InvT-loop
 Inv-loop index bytes₀ value len i₀ bytes i = (i ≤ len) × (bytes ≡ sets bytes₀ 0 (take i (lowBytes len value)))
+
 abbrev μ-loop : tie.MeasureT-loop
 μ-loop index bytes₀ value len i₀ bytes i = len - i
+
 -- src/luminaire_write.rt:323:34
 of-field-requires : tie.Need-of-field-requires Inv-loop μ-loop
 of-field-requires c κs = search needs
+
 -- src/luminaire_write.rt:323:25
 enum-known-value : tie.Need-enum-known-value Inv-loop μ-loop
 enum-known-value c = search needs
+
 -- src/luminaire_write.rt:324:9
 enum-told : tie.Need-enum-told Inv-loop μ-loop
 enum-told c = search needs
+
 -- src/luminaire_write.rt:324:9
 returns : tie.Need-returns Inv-loop μ-loop
-returns c = ?
+returns c =
+    let w = c .before .before in
+    let a = w .before .before .args in
+    let no = told-u32 (wantedNumber (a .numbers) (a .field .kind)) (w .of-field .ensures) (c .enum-told .given .1) in
+    (rw no, rw no)
 
 -- src/luminaire_write.rt:328:5
 loop-holds : tie.Need-loop-holds Inv-loop μ-loop
 loop-holds c = (omega arith, refl)
+
 -- src/luminaire_write.rt:329:20
 cast-put : tie.Need-cast-put Inv-loop μ-loop
 cast-put c = omega arith
+
 -- src/luminaire_write.rt:329:47
 sub-byte-of : tie.Need-sub-byte-of Inv-loop μ-loop
 sub-byte-of c = omega arith
+
 -- src/luminaire_write.rt:329:47
 sub-byte-of-2 : tie.Need-sub-byte-of-2 Inv-loop μ-loop
 sub-byte-of-2 c = omega arith
+
 -- src/luminaire_write.rt:329:32
 byte-of-requires : tie.Need-byte-of-requires Inv-loop μ-loop
 byte-of-requires c κs = search needs
+
 -- src/luminaire_write.rt:329:9
 put-requires : tie.Need-put-requires Inv-loop μ-loop
 put-requires c κs = search needs
+
 -- src/luminaire_write.rt:330:9
 add-i : tie.Need-add-i Inv-loop μ-loop
 add-i c = omega arith
+
 -- src/luminaire_write.rt:328:5
 loop-less : tie.Need-loop-less Inv-loop μ-loop
 loop-less c = omega arith
+
 -- src/luminaire_write.rt:328:5
 loop-again : tie.Need-loop-again Inv-loop μ-loop
-loop-again c = ?
+loop-again c =
+    let l = c .before .before .before .before .before .before in
+    let s = l .before .before .before .before .before .before .args in
+    let v = l .before .before .value .given .0 .0 in
+    let n = s .field .len in (
+      omega arith,
+      c .before .before .put .ensures
+          ∙ ap (λ (b : ℕ). set (l .loop .bytes) (l .loop .i) b) (c .before .before .before .byte-of .ensures ∙ sym (lowBytes-at n v (l .loop .i) (omega arith)))
+          ∙ ap (λ (r : List ℕ). set r (l .loop .i) (getD (lowBytes n v) (l .loop .i) 0)) (l .loop .inv .1)
+          ∙ fill-next (s .bytes .now) (l .loop .i) (lowBytes n v) 0 (rw length-lowBytes (omega arith)),
+    )
 
 -- src/luminaire_write.rt:314:1
 same-length : tie.Need-same-length Inv-loop μ-loop
-same-length c = ?
+same-length c = ap length (c .before .loop .inv .1) ∙ length-sets _ _ _
 
 -- src/luminaire_write.rt:314:1
 returns-2 : tie.Need-returns-2 Inv-loop μ-loop
-returns-2 c = ?
+returns-2 c =
+    let l = c .before in
+    let w = l .before .before .before .before in
+    let s = w .before .before .args in
+    let v = l .before .before .value .given .0 .0 in
+    let yes = told-u32 (wantedNumber (s .numbers) (s .field .kind)) (w .of-field .ensures) (l .before .before .value .given .1) in
+    (rw (yes, length-lowBytes (s .field .len) v), rw yes (l .loop .inv .1 ∙ ap (λ (r : List ℕ). sets (s .bytes .now) 0 r) (take-all (l .loop .i) (lowBytes (s .field .len) v) (rw length-lowBytes (omega arith)))))
 
 pub number-write-spec : {M : Type 1} → statement M
 number-write-spec =

@@ -21,5 +21,6 @@ returns c = search needs
 -- src/luminaire_write.rt:108:1
 returns-2 : tie.Need-returns-2
 returns-2 c = sym (set-out _ _ _ (c .if1 .left))
+
 pub put-spec : {M : Type 1} → statement M
 put-spec = tie.close (tie.spec slice-write-out same-length returns returns-2)

@@ -16,6 +16,7 @@ returns : tie.Need-returns
 returns c =
     let b = c .before .args .bytes .now in
     sym (drop-all b (omega arith))
+
 -- src/luminaire_write.rt:180:5
 sub-result : tie.Need-sub-result
 sub-result c = search needs
@@ -33,5 +34,6 @@ returns-2 : tie.Need-returns-2
 returns-2 c =
     let b = c .before .before .args .bytes .now in
     take-all (length b - 1) (drop 1 b) (rw length-drop (omega arith))
+
 pub tail-spec : {M : Type 1} → statement M
 tail-spec = tie.close (tie.spec returns sub-result part-result-start part-result-end returns-2)

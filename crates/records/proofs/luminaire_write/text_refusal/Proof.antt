@@ -29,6 +29,7 @@ returns c =
     let w = c .before .before .before .before in
     let a = w .before .before .args in
     sym (ap optionRefusal (passed-behind (a .layout) (a .field) _ (sym (w .check-writable .ensures) ∙ c .before .before .enum-told .given .1) ∙ alone-passed TextNotAccepted (ap not (sym (c .before .accepts-text .ensures) ∙ c .if1 .taken))))
+
 -- src/luminaire_write.rt:511:36
 enum-known-refusal : tie.Need-enum-known-refusal
 enum-known-refusal c = search needs
@@ -39,12 +40,14 @@ returns-2 c =
     let w = c .before .before .before .before in
     let a = w .before .before .args in
     sym (ap optionRefusal (passed-behind (a .layout) (a .field) _ (sym (w .check-writable .ensures) ∙ c .before .before .enum-told .given .1) ∙ alone-refused TextNotAccepted (ap not (sym (c .before .accepts-text .ensures) ∙ c .if1 .left))))
+
 -- src/luminaire_write.rt:501:1
 returns-3 : tie.Need-returns-3
 returns-3 c =
     let w = c .before .before .before in
     let a = w .before .before .args in
     rw (refused-behind (a .layout) (a .field) _ (sym (w .check-writable .ensures) ∙ c .before .refusal .given .1))
+
 pub text-refusal-spec : {M : Type 1} → statement M
 text-refusal-spec =
     tie.close

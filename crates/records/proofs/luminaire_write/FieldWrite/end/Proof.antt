@@ -24,6 +24,7 @@ enum-told c = search needs
 -- src/luminaire_write.rt:230:13
 returns : tie.Need-returns
 returns c = rw (told-field (getElem? luminaireFields (c .before .before .before .args .self .field)) (c .before .before .of-index .ensures) (c .enum-told .given .1))
+
 -- src/luminaire_write.rt:232:27
 cast-t4 : tie.Need-cast-t4
 cast-t4 c = search needs
@@ -41,6 +42,7 @@ returns-2 : tie.Need-returns-2
 returns-2 c =
     let i = c .before .before .before .before .before in
     rw (told-field (getElem? luminaireFields (i .before .args .self .field)) (i .of-index .ensures) (c .before .before .before .field .given .1))
+
 pub end-spec : {M : Type 1} → statement M
 end-spec =
     tie.close

@@ -37,6 +37,7 @@ returns : tie.Need-returns
 returns c =
     let a = c .before .before .before .before .before .args in
     sym (held-nowhere (a .self) (a .bytes .now) (a .bank .now) (told-index (endOf (a .self)) (c .before .before .end .ensures) (c .enum-told .given .1)))
+
 -- src/luminaire_write.rt:257:19
 cast-len : tie.Need-cast-len
 cast-len c = search needs
@@ -47,18 +48,21 @@ returns-2 c =
     let i = c .before .before .before in
     let a = i .before .before .before .before .before .args in
     sym (held-past (a .self) (a .bytes .now) (a .bank .now) (its-end i) (omega arith))
+
 -- src/luminaire_write.rt:262:13
 returns-3 : tie.Need-returns-3
 returns-3 c =
     let i = c .before .before .before .before in
     let a = i .before .before .before .before .before .args in
     sym (held-unknown (a .self) (a .bytes .now) (a .bank .now) (its-end i) (omega arith) (omega arith))
+
 -- src/luminaire_write.rt:264:23
 sub-is-same : tie.Need-sub-is-same
 sub-is-same c =
     let i = c .before .before .before .before in
     let a = i .before .before .before .before .before .args in
     starts-within (a .self) (a .bytes .now) (a .bank .now) (its-end i)
+
 -- src/luminaire_write.rt:264:17
 sub-is-same-2 : tie.Need-sub-is-same-2
 sub-is-same-2 c = search needs
@@ -76,6 +80,7 @@ slice-aggregate-is-same : tie.Need-slice-aggregate-is-same
 slice-aggregate-is-same c =
     let a = c .before .before .before .before .before .before .before .before .before .before .before .args in
     sym (length-take-le (a .self .len) (a .bytes .now) (omega arith))
+
 -- src/luminaire_write.rt:264:9
 is-same-requires : tie.Need-is-same-requires
 is-same-requires c κs =
@@ -83,12 +88,14 @@ is-same-requires c κs =
     let a = i .before .before .before .before .before .args in
     let w = starts-within (a .self) (a .bytes .now) (a .bank .now) (its-end i) in
     rw (length-take, length-drop, length-take) (omega arith)
+
 -- src/luminaire_write.rt:251:5
 returns-4 : tie.Need-returns-4
 returns-4 c =
     let i = c .before .before .before .before .before .before .before in
     let a = i .before .before .before .before .before .args in
     c .is-same .ensures ∙ sym (held-same (a .self) (a .bytes .now) (a .bank .now) (its-end i) (omega arith) (omega arith))
+
 pub held-by-spec : {M : Type 1} → statement M
 held-by-spec =
     tie.close

@@ -11,32 +11,43 @@ use Rattle.bank.specs.Fields.{luminaireFields}
 use Rattle.bank.proofs.Options.{told-field}
 use Rattle.records.proofs.Table.{within-bank}
 
--- src/luminaire_write.rt:266:49
+-- src/luminaire_write.rt:285:49
 of-index-requires : tie.Need-of-index-requires
 of-index-requires c κs = search needs
 
--- src/luminaire_write.rt:266:40
+-- src/luminaire_write.rt:285:40
 enum-known-field : tie.Need-enum-known-field
 enum-known-field c = search needs
 
--- src/luminaire_write.rt:267:13
+-- src/luminaire_write.rt:286:13
 enum-told : tie.Need-enum-told
 enum-told c = search needs
 
--- src/luminaire_write.rt:267:13
+-- src/luminaire_write.rt:286:13
 returns : tie.Need-returns
 returns c = rw (told-field (getElem? luminaireFields (c .before .before .before .args .self .field)) (c .before .before .of-index .ensures) (c .enum-told .given .1))
--- src/luminaire_write.rt:269:9
+-- src/luminaire_write.rt:288:37
+cast-stage-of : tie.Need-cast-stage-of
+cast-stage-of c = search needs
+
+-- src/luminaire_write.rt:288:9
 stage-of-requires : tie.Need-stage-of-requires
 stage-of-requires c κs =
-    let i = c .before .before .before in
-    within-bank (i .before .args .self .field) (told-field (getElem? luminaireFields (i .before .args .self .field)) (i .of-index .ensures) (c .before .field .given .1))
--- src/luminaire_write.rt:263:5
+    let i = c .before .before .before .before in
+    within-bank (i .before .args .self .field) (told-field (getElem? luminaireFields (i .before .args .self .field)) (i .of-index .ensures) (c .before .before .field .given .1))
+-- src/luminaire_write.rt:282:5
 returns-2 : tie.Need-returns-2
 returns-2 c =
-    let i = c .before .before .before .before in
-    rw (told-field (getElem? luminaireFields (i .before .args .self .field)) (i .of-index .ensures) (c .before .before .field .given .1)) (c .stage-of .ensures)
+    let i = c .before .before .before .before .before in
+    rw (told-field (getElem? luminaireFields (i .before .args .self .field)) (i .of-index .ensures) (c .before .before .before .field .given .1)) (c .stage-of .ensures)
 pub stage-spec : {M : Type 1} → statement M
 stage-spec =
     tie.close
-    (tie.spec of-index-requires enum-known-field enum-told returns stage-of-requires returns-2)
+    (tie.spec
+    of-index-requires
+    enum-known-field
+    enum-told
+    returns
+    cast-stage-of
+    stage-of-requires
+    returns-2)

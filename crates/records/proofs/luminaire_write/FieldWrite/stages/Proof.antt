@@ -10,35 +10,39 @@ use lib.ListN.{getElem?}
 use Rattle.bank.specs.Fields.{luminaireFields}
 use Rattle.bank.proofs.Options.{told-field}
 
--- src/luminaire_write.rt:256:49
+-- src/luminaire_write.rt:271:49
 of-index-requires : tie.Need-of-index-requires
 of-index-requires c κs = search needs
 
--- src/luminaire_write.rt:256:40
+-- src/luminaire_write.rt:271:40
 enum-known-field : tie.Need-enum-known-field
 enum-known-field c = search needs
 
--- src/luminaire_write.rt:257:13
+-- src/luminaire_write.rt:272:13
 enum-told : tie.Need-enum-told
 enum-told c = search needs
 
--- src/luminaire_write.rt:257:13
+-- src/luminaire_write.rt:272:13
 returns : tie.Need-returns
 returns c = rw (told-field (getElem? luminaireFields (c .before .before .before .args .self .field)) (c .before .before .of-index .ensures) (c .enum-told .given .1))
--- src/luminaire_write.rt:259:12
+-- src/luminaire_write.rt:274:29
+cast-is-staged : tie.Need-cast-is-staged
+cast-is-staged c = search needs
+
+-- src/luminaire_write.rt:274:12
 is-staged-requires : tie.Need-is-staged-requires
 is-staged-requires c κs = search needs
 
--- src/luminaire_write.rt:253:5
+-- src/luminaire_write.rt:268:5
 returns-2 : tie.Need-returns-2
 returns-2 c =
-    let i = c .before .before .before .before .before in
-    rw (told-field (getElem? luminaireFields (i .before .args .self .field)) (i .of-index .ensures) (c .before .before .before .field .given .1), sym (c .before .is-staged .ensures) ∙ c .if1 .taken)
--- src/luminaire_write.rt:253:5
+    let i = c .before .before .before .before .before .before in
+    rw (told-field (getElem? luminaireFields (i .before .args .self .field)) (i .of-index .ensures) (c .before .before .before .before .field .given .1), sym (c .before .is-staged .ensures) ∙ c .if1 .taken)
+-- src/luminaire_write.rt:268:5
 returns-3 : tie.Need-returns-3
 returns-3 c =
-    let i = c .before .before .before .before .before in
-    rw (told-field (getElem? luminaireFields (i .before .args .self .field)) (i .of-index .ensures) (c .before .before .before .field .given .1), sym (c .before .is-staged .ensures) ∙ c .if1 .left)
+    let i = c .before .before .before .before .before .before in
+    rw (told-field (getElem? luminaireFields (i .before .args .self .field)) (i .of-index .ensures) (c .before .before .before .before .field .given .1), sym (c .before .is-staged .ensures) ∙ c .if1 .left)
 pub stages-spec : {M : Type 1} → statement M
 stages-spec =
     tie.close
@@ -47,6 +51,7 @@ stages-spec =
     enum-known-field
     enum-told
     returns
+    cast-is-staged
     is-staged-requires
     returns-2
     returns-3)

@@ -33,6 +33,7 @@ returns-2 : tie.Need-returns-2
 returns-2 c =
     let k = c .before .before in
     rw (k .kind .given .1) (c .of-patch .ensures)
+
 -- src/luminaire_write.rt:95:5
 returns-3 : tie.Need-returns-3
 returns-3 c = search needs

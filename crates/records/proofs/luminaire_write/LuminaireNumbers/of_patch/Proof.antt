@@ -13,6 +13,7 @@ use Rattle.records.proofs.Numbers.{number-over, number-unset, number-se
 -- src/luminaire_write.rt:84:13
 returns : tie.Need-returns
 returns c = ap optionU32 (number-over (c .before .args .self) (c .before .args .patch) (omega arith))
+
 -- src/luminaire_write.rt:87:21
 cast-if2 : tie.Need-cast-if2
 cast-if2 c = search needs
@@ -26,6 +27,7 @@ returns-2 : tie.Need-returns-2
 returns-2 c =
     let a = c .before .before .args in
     ap optionU32 (number-unset (a .self) (a .patch) (ne-eqb _ _ (c .if2 .taken)))
+
 -- src/luminaire_write.rt:90:23
 number-values-requires : tie.Need-number-values-requires
 number-values-requires c κs = search needs
@@ -47,6 +49,7 @@ returns-3 : tie.Need-returns-3
 returns-3 c =
     let a = c .before .before .before .args in
     rw (c .number-values .ensures) (ap optionU32 (number-set (a .self) (a .patch) (eq-eqb _ _ (c .before .if2 .left)) (omega arith)))
+
 pub of-patch-spec : {M : Type 1} → statement M
 of-patch-spec =
     tie.close

@@ -36,6 +36,7 @@ returns : tie.Need-returns
 returns c =
     let w = c .before .before .before in
     rw (refused-first (checks w) _ (told-refusal (firstOf (checks w)) (w .wanted-refusal .ensures) (c .before .refusal .given .1)))
+
 enum-told : tie.Need-enum-told
 enum-told c = search needs
 
@@ -48,6 +49,7 @@ returns-2 : tie.Need-returns-2
 returns-2 c =
     let w = c .before .before .before .before in
     rw (passed-first (checks w) _ (told-refusal (firstOf (checks w)) (w .wanted-refusal .ensures) (c .before .before .enum-told .given .1)), sym (c .before .is-for .ensures) ∙ not-true _ (c .if1 .taken)) (ap optionRefusal (sym first-none))
+
 -- src/luminaire_write.rt:545:9
 text-refusal-requires : tie.Need-text-refusal-requires
 text-refusal-requires c κs = search needs
@@ -57,6 +59,7 @@ returns-3 : tie.Need-returns-3
 returns-3 c =
     let w = c .before .before .before .before .before in
     rw (passed-first (checks w) _ (told-refusal (firstOf (checks w)) (w .wanted-refusal .ensures) (c .before .before .before .enum-told .given .1)), sym (c .before .before .is-for .ensures) ∙ not-false _ (c .before .if1 .left)) (c .text-refusal .ensures)
+
 pub field-refusal-spec : {M : Type 1} → statement M
 field-refusal-spec =
     tie.close

@@ -32,6 +32,7 @@ returns c =
     let w = c .before .before .before .before in
     let a = w .before .args in
     rw (told-u32 (wantedNumber (a .self .numbers) (a .field .kind)) (w .of-field .ensures) (c .before .before .value .given .1)) (c .number-refusal .ensures)
+
 -- src/luminaire_write.rt:525:5
 returns-2 : tie.Need-returns-2
 unfolding firstOf
@@ -39,6 +40,7 @@ returns-2 c =
     let w = c .before .before in
     let a = w .before .args in
     rw (told-u32 (wantedNumber (a .self .numbers) (a .field .kind)) (w .of-field .ensures) (c .enum-told .given .1))
+
 pub wanted-refusal-spec : {M : Type 1} → statement M
 wanted-refusal-spec =
     tie.close

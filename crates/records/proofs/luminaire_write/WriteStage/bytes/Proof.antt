@@ -42,9 +42,11 @@ returns-2 c = search needs
 -- src/luminaire_write.rt:161:5
 returns-3 : tie.Need-returns-3
 returns-3 c = rw (c .before .enum-told3 .given .1) (c .tail .ensures)
+
 -- src/luminaire_write.rt:161:5
 returns-4 : tie.Need-returns-4
 returns-4 c = rw (c .before .enum-told4 .given .1) (c .head .ensures)
+
 pub bytes-spec : {M : Type 1} → statement M
 bytes-spec =
     tie.close

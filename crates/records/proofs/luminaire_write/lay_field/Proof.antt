@@ -1,0 +1,128 @@
+use borrow.Author.Needs.{needs}
+use Rattle.records.proofs.luminaire_write.lay_field.Statement.{statement}
+use Rattle.records.proofs.luminaire_write.lay_field.Tie as tie
+use Rattle.records.proofs.luminaire_write.lay_field.Reads as reads
+use Rattle.records.proofs.luminaire_write.lay_field.Lts as lts
+use Rattle.records.proofs.luminaire_write.field_write.Reads as field-write-reads
+use Rattle.records.proofs.luminaire_write.lay_write.Reads as lay-write-reads
+use mathlib.Core.Path.{_≡_, refl, sym, ap, _∙_}
+use mathlib.Core.List.{List}
+use mathlib.Core.Option.{Option}
+use Prim.Native.Nat.{ℕ, _≤_}
+use native.Mathlib.Omega.{arith}
+use lib.ListN.{length, take, replicate, length-replicate}
+use lib.Seq.{sets, length-sets}
+use Rattle.records.specs.Writes.{bytesFor, bytesIn, written, writeStores, storesAt}
+use Rattle.records.proofs.Laying.{front-laid}
+use Rattle.records.proofs.Stages.{bytes-fit, ToldWrite, told-write, told-nothing, stores-of-write, stores-of-none}
+use Rattle.records.proofs.Stores.{Laid, none-laid, laid-same, offsets-kept, values-kept}
+
+abbrev wanted : tie.Start → Option (List ℕ)
+wanted s = let a = s .args in bytesFor (a .field .kind) (a .numbers) (a .text-field) (a .text .now) (a .index) (a .field)
+
+-- the write that was made
+told : (c : tie.After-write) → ToldWrite (c .write .given .0 .0) (wanted (c .before .before .before .before .before .before .before .before))
+told c =
+    let s = c .before .before .before .before .before .before .before .before in
+    told-write (s .args .index) (wanted s) (c .before .before .before .field-write .ensures .0) (c .write .given .1)
+
+short : (c : tie.After-write) → length (told c .bytes) ≤ c .before .before .before .before .before .before .before .before .args .field .len
+short c =
+    let a = c .before .before .before .before .before .before .before .before .args in
+    bytes-fit (a .field .kind) (a .numbers) (a .text-field) (a .text .now) (a .index) (a .field) (told c .is)
+
+-- its bytes are there
+laid : (c : tie.After-write) → take (c .write .given .0 .0 .len) (c .before .before .before .field-write .last .1 .1 .1 .1 .1 .0) ≡ told c .bytes
+laid c =
+    let t = told c in
+    ap (λ (b : List ℕ). take (c .write .given .0 .0 .len) b) (c .before .before .before .field-write .ensures .1 ∙ ap (λ (o : Option (List ℕ)). sets (replicate 256 0) 0 (bytesIn o)) (t .is))
+    ∙ ap (λ (k : ℕ). take k (sets (replicate 256 0) 0 (t .bytes))) (t .counts)
+    ∙ front-laid (t .bytes) (replicate 256 0) (omega (arith, short c, c .before .before .before .before .before .before .before .before .pre .0 .ends))
+
+-- and its stores
+all-laid : (c : tie.After-slice-known4) → (let w = c .before .before .before .before in let a = w .before .before .before .before .before .before .before .before .before .before .before .before .before .before .args in Laid (a .offsets .now) (a .values .now) (a .count) (storesAt (a .numbers) (a .text-field) (a .text .now) (a .index) (a .field)) (w .lay-write .last .1 .1 .1 .0) (w .lay-write .last .1 .1 .1 .1 .0) (w .lay-write .result))
+all-laid c =
+    let l = c .before .before .before .before in
+    let w = l .before .before .before .before .before .before in
+    let a = w .before .before .before .before .before .before .before .before .args in
+    let e = l .lay-write .ensures in
+    laid-same
+    (ap (λ (b : List ℕ). writeStores (written (a .index) (a .field) b)) (laid w) ∙ sym (stores-of-write (a .numbers) (a .text-field) (a .text .now) (a .index) (a .field) (told w .is)))
+    (record { count = e .0; offsets = e .1 .0; values = e .1 .1 })
+
+-- src/luminaire_write.rt:494:64
+slice-aggregate-field-write : tie.Need-slice-aggregate-field-write
+slice-aggregate-field-write c = search needs
+
+-- src/luminaire_write.rt:494:11
+field-write-requires : tie.Need-field-write-requires
+field-write-requires c κs = search needs
+
+-- src/luminaire_write.rt:495:32
+enum-known-write : tie.Need-enum-known-write
+enum-known-write c = search needs
+
+-- src/luminaire_write.rt:496:23
+cast-len : tie.Need-cast-len
+cast-len c = search needs
+
+-- src/luminaire_write.rt:497:37
+array-share-prefix-bytes : tie.Need-array-share-prefix-bytes
+array-share-prefix-bytes c = search needs
+
+-- src/luminaire_write.rt:497:37
+slice-aggregate-lay-write : tie.Need-slice-aggregate-lay-write
+slice-aggregate-lay-write c =
+    let w = c .before .before .before in
+    told w .counts ∙ sym (ap length (laid w))
+
+-- src/luminaire_write.rt:497:13
+lay-write-requires : tie.Need-lay-write-requires
+lay-write-requires c κs =
+    let w = c .before .before .before .before .before in
+    let s = w .before .before .before .before .before .before .before .before in
+    (s .pre .0, (omega (arith, ap length (laid w), short w), s .pre .1))
+
+-- src/luminaire_write.rt:499:35
+enum-told : tie.Need-enum-told
+enum-told c = search needs
+
+-- src/luminaire_write.rt:478:1
+same-length : tie.Need-same-length
+same-length c = offsets-kept (all-laid c)
+
+-- src/luminaire_write.rt:478:1
+same-length-2 : tie.Need-same-length-2
+same-length-2 c = values-kept (all-laid c)
+
+-- src/luminaire_write.rt:478:1
+returns : tie.Need-returns
+returns c =
+    let l = all-laid c in
+    (l .count, (l .offsets, l .values))
+
+-- src/luminaire_write.rt:478:1
+returns-2 : tie.Need-returns-2
+returns-2 c =
+    let s = c .before .before .before .before .before .before .before .before in
+    let a = s .args in
+    let none = stores-of-none (a .numbers) (a .text-field) (a .text .now) (a .index) (a .field) (told-nothing (a .index) (wanted s) (c .before .before .before .field-write .ensures .0) (c .enum-told .given .1)) in
+    let l : Laid (a .offsets .now) (a .values .now) (a .count) (storesAt (a .numbers) (a .text-field) (a .text .now) (a .index) (a .field)) (a .offsets .now) (a .values .now) (a .count) = laid-same (sym none) none-laid in
+    (l .count, (l .offsets, l .values))
+
+pub lay-field-spec : {M : Type 1} → statement M
+lay-field-spec =
+    tie.close
+    (tie.spec
+    slice-aggregate-field-write
+    field-write-requires
+    enum-known-write
+    cast-len
+    array-share-prefix-bytes
+    slice-aggregate-lay-write
+    lay-write-requires
+    enum-told
+    same-length
+    same-length-2
+    returns
+    returns-2)
