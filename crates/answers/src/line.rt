@@ -206,7 +206,7 @@ pub(crate) fn put_u16(text: &mut [u8], n: usize, v: u16) -> usize {
     put_u8(text, m, (v % 256) as u8)
 }
 
-fn put_u32(text: &mut [u8], n: usize, v: u32) -> usize {
+pub(crate) fn put_u32(text: &mut [u8], n: usize, v: u32) -> usize {
     let m = put_u16(text, n, (v / 0x1_0000) as u16);
     put_u16(text, m, (v % 0x1_0000) as u16)
 }
@@ -288,6 +288,12 @@ pub(crate) fn put_slice(text: &mut [u8], n: usize, bytes: &[u8]) -> usize {
         i += 1;
     }
     m
+}
+
+// A slice with its length.
+pub(crate) fn put_lent(text: &mut [u8], n: usize, bytes: &[u8]) -> usize {
+    let m = put_u16(text, n, (bytes.len() % 0x1_0000) as u16);
+    put_slice(text, m, bytes)
 }
 
 pub(crate) fn put_newline(text: &mut [u8], n: usize) -> usize {

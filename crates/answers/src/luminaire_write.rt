@@ -1,5 +1,6 @@
 // The functions of luminaire_write.rs.
 use crate::line;
+use crate::plan;
 use bank::Bank1Layout;
 use bank::FieldKind;
 use bank::LuminaireField;
@@ -28,6 +29,7 @@ pub(crate) fn answer(number: u8, request: &[u8], text: &mut [u8], n: usize) -> u
             Bank1Layout::from_header(line::slice_at(request, 1)),
         ),
         0x38 => check_writable(request, text, n),
+        0x39..=0x3E => plan::answer(number, request, text, n),
         _ => n,
     }
 }
@@ -83,8 +85,8 @@ fn option_u16_at(request: &[u8], at: usize) -> OptionU16
 }
 
 // The index behind an option whose value has a number of bytes.
-fn option_end(request: &[u8], at: usize, bytes: usize) -> usize
-    requires { ⌜ (at ≤ 4090) × (bytes ≤ 2) ⌝ }
+pub(crate) fn option_end(request: &[u8], at: usize, bytes: usize) -> usize
+    requires { ⌜ (at ≤ 4090) × (bytes ≤ 8) ⌝ }
     ensures { λ r. ⌜ r ≤ at + 1 + bytes ⌝ }
 {
     if line::u8_at(request, at) == 0 {
@@ -158,7 +160,7 @@ fn field_end(request: &[u8], at: usize) -> usize
     }
 }
 
-fn layout_at(request: &[u8], at: usize) -> Bank1Layout
+pub(crate) fn layout_at(request: &[u8], at: usize) -> Bank1Layout
     requires { ⌜ at ≤ 4000 ⌝ }
 {
     let id = option_end(request, at, 1);
@@ -171,7 +173,7 @@ fn layout_at(request: &[u8], at: usize) -> Bank1Layout
 }
 
 // The index behind a layout.
-fn layout_end(request: &[u8], at: usize) -> usize
+pub(crate) fn layout_end(request: &[u8], at: usize) -> usize
     requires { ⌜ at ≤ 4000 ⌝ }
     ensures { λ r. ⌜ r ≤ at + 7 ⌝ }
 {

@@ -8,6 +8,7 @@ mod line;
 mod luminaire_write;
 mod memory_bank_parser;
 mod part251;
+mod plan;
 mod read_out;
 
 use libc::STDIN_FILENO;

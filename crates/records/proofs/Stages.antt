@@ -8,7 +8,7 @@ use Prim.Native.Nat.{ℕ, zero, suc, _+_, _≤_, _<_}
 use native.Mathlib.Omega.{arith}
 use lib.Dec.{lit≤}
 use lib.ListN.{length, take, drop, getElem?, length-append, length-take, length-drop}
-use lib.Seq.{take-all, take-append-le}
+use lib.Seq.{sets, take-all, take-append-le}
 use Rattle.bus.specs.Number.{lowBytes}
 use Rattle.bus.proofs.Tests.{by-test}
 use Rattle.bus.proofs.Number.{length-lowBytes}
@@ -18,13 +18,14 @@ use Rattle.bank.specs.declared.luminaire_write.NumberRule.{NumberRule}
 use Rattle.bank.specs.declared.luminaire_write.FieldKind.{FieldKind}
 use Rattle.bank.specs.declared.luminaire_write.FieldKind.the-variants.{LayoutId, Number, Text}
 use Rattle.bank.specs.declared.luminaire_write.LuminaireField.{LuminaireField}
+use Rattle.records.proofs.Laying.{front-laid}
 use Rattle.records.specs.declared.luminaire_write.LuminaireNumbers.{LuminaireNumbers}
 use Rattle.records.specs.declared.luminaire_write.WriteStage.{WriteStage}
 use Rattle.records.specs.declared.luminaire_write.FieldWrite.{FieldWrite}
 use Rattle.records.specs.declared.luminaire_write.OptionFieldWrite.{OptionFieldWrite}
 use Rattle.records.specs.declared.luminaire_write.StagePart.the-variants.{Terminator, Whole, Tail, Head}
 use Rattle.records.specs.Steps.{WithinBank}
-use Rattle.records.specs.Writes.{Store, wantedNumber, isFor, numberBytes, terminated, bytesFor, optionFieldWrite, isStaged, stagesOf, partOf, singleBytes, written, writeStores, storesAt}
+use Rattle.records.specs.Writes.{Store, wantedNumber, isFor, numberBytes, terminated, bytesFor, bytesIn, optionFieldWrite, isStaged, stagesOf, partOf, singleBytes, written, writeStores, storesAt}
 
 -- no element behind the last
 module _ {A : Type 0} where
@@ -86,6 +87,13 @@ told-write place none h t =
     let z : OptionFieldWrite.None ≡ OptionFieldWrite.Some _ = sym h ∙ t in
     no-element (ap optional z)
 told-write place (some bytes) h t = record { bytes = bytes; is = refl; counts = sym (ap lenOf (sym h ∙ t)) }
+
+-- its bytes stand at the start of the slice that they were stored to
+pub front-told : {o : Option (List ℕ)} {w : FieldWrite} {buffer : List ℕ} (t : ToldWrite w o) (l : List ℕ) → buffer ≡ sets l 0 (bytesIn o) → length (t .bytes) ≤ length l → take (w .len) buffer ≡ t .bytes
+front-told {o} {w} t l e h =
+    ap (take (w .len)) (e ∙ ap (λ (o : Option (List ℕ)). sets l 0 (bytesIn o)) (t .is))
+    ∙ ap (λ (k : ℕ). take k (sets l 0 (t .bytes))) (t .counts)
+    ∙ front-laid (t .bytes) l h
 
 pub told-nothing : (place : ℕ) (o : Option (List ℕ)) {e : OptionFieldWrite} → e ≡ optionFieldWrite place o → e ≡ OptionFieldWrite.None → o ≡ none
 told-nothing place none h t = refl

@@ -78,10 +78,10 @@ module _ {os vs : List ℕ} {n : ℕ} where
 
   -- slices keep their lengths
   pub offsets-kept : {ss : List Store} {os′ vs′ : List ℕ} {n′ : ℕ} → Laid os vs n ss os′ vs′ n′ → length os′ ≡ length os
-  offsets-kept a = ap length (a .offsets) ∙ length-sets _ _ _
+  offsets-kept {ss} a = ap length (a .offsets) ∙ length-sets os n (offsetsOf ss)
 
   pub values-kept : {ss : List Store} {os′ vs′ : List ℕ} {n′ : ℕ} → Laid os vs n ss os′ vs′ n′ → length vs′ ≡ length vs
-  values-kept a = ap length (a .values) ∙ length-sets _ _ _
+  values-kept {ss} a = ap length (a .values) ∙ length-sets vs n (valuesOf ss)
 
   -- the stores of the next of several elements, where there is one
   module _ {A : Type 0} (g : A → List Store) (xs : List A) (i : ℕ) {os′ vs′ : List ℕ} {n′ : ℕ} (before : Laid os vs n (flat g (take i xs)) os′ vs′ n′) where

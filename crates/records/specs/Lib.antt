@@ -4,9 +4,9 @@ pub mod Places
 pub mod Records
 pub mod Utf8
 pub mod Text
-pub mod Steps
 pub mod Identity
 pub mod BusUnit
 pub mod Writes
 pub mod Plan
+pub mod Steps
 pub mod Cases

@@ -2,7 +2,7 @@
 -- Assumes nothing.
 use mathlib.Core.Bool.{cond}
 use mathlib.Core.List.{List}
-use Prim.Native.Nat.{ℕ, max, _≤_}
+use Prim.Native.Nat.{ℕ, max, _+_, _≤_}
 use lib.Dec.{leb}
 use lib.ListN.{length}
 use Rattle.bus.specs.Value.{laidInto}
@@ -10,7 +10,9 @@ use Rattle.bank.specs.declared.luminaire_write.LuminaireField.{LuminaireField}
 use Rattle.bank.specs.Fields.{fieldEnd}
 use Rattle.records.specs.declared.memory_bank_parser.Pushed.{Pushed}
 use Rattle.records.specs.Utf8.{sequenceLen}
+use Rattle.records.specs.declared.luminaire_write.WriteCounts.{WriteCounts}
 use Rattle.records.specs.Text.{piece}
+use Rattle.records.specs.Writes.{Write, allBytes}
 
 -- how many bytes of a piece enter a slice: all, or none
 abbrev pub pushedLen : List ℕ → List ℕ → ℕ
@@ -28,3 +30,7 @@ pushed bytes out = record { taken = max 1 (sequenceLen bytes); len = pushedLen (
 pub record WithinBank (f : LuminaireField) : Type 0 where
   pub starts : f .offset ≤ 254
   pub ends : fieldEnd f ≤ 256
+
+-- how many writes are laid, and how many bytes they have, with further ones
+abbrev pub countsWith : WriteCounts → List Write → WriteCounts
+countsWith c ws = record { writes = c .writes + length ws; bytes = c .bytes + length (allBytes ws) }

@@ -20,9 +20,9 @@ ghost use Rattle.bus.specs.Value.{laidInto};
 ghost use Rattle.bank.specs.Refusal.{firstOf};
 ghost use Rattle.bank.specs.Fields.{luminaireFields};
 ghost use Rattle.bank.specs.Options.{optionU32, optionUsize, optionRefusal};
-ghost use Rattle.records.specs.Writes.{numberValues, numberFor, wantedNumber, isFor, numberBytes, terminated, bytesFor, bytesIn, counted, optionFieldWrite, written, plannedWrites, indices, lengths, allBytes, endOf, same, heldBy, isStaged, stagesOf, optionWriteStage, stagesAt, partOf, singleBytes, writeStores, storesAt, planStores, offsetsOf, valuesOf, gather};
+ghost use Rattle.records.specs.Writes.{numberValues, numberFor, wantedNumber, isFor, numberBytes, terminated, bytesFor, bytesIn, counted, optionFieldWrite, written, writesAt, plannedWrites, indices, lengths, allBytes, endOf, same, heldBy, isStaged, stagesOf, optionWriteStage, stagesAt, partOf, singleBytes, writeStores, storesAt, planStores, offsetsOf, valuesOf, gather};
 ghost use Rattle.records.specs.Plan.{numberChecks, textChecks, ifWanted, fieldChecks, indexOver, planChecks, planned, offsetsAfter, valuesAfter};
-ghost use Rattle.records.specs.Steps.{WithinBank};
+ghost use Rattle.records.specs.Steps.{WithinBank, countsWith};
 
 // DiiA 251 §9.2.5
 pub const TEXT_TERMINATOR: u8 = 0;
@@ -388,6 +388,46 @@ fn field_write(
     }
 }
 
+// How many writes are laid, and how many bytes they have.
+struct WriteCounts {
+    writes: usize,
+    bytes: usize,
+}
+
+// Lays the write of a field, where there is one, behind those before.
+fn lay_planned(
+    index: usize,
+    field: LuminaireField,
+    numbers: LuminaireNumbers,
+    text_field: OptionUsize,
+    text: &[u8],
+    fields: &mut [u8],
+    lens: &mut [u8],
+    bytes: &mut [u8],
+    before: WriteCounts,
+) -> WriteCounts
+    requires { ⌜ (index ≤ 255) × ((WithinBank field) × ((before .writes ≤ 65000) × (before .bytes ≤ 65000))) ⌝ }
+    ensures counts { λ r. ⌜ r ≡ countsWith before (writesAt numbers «text_field» (now (text .entry)) index field) ⌝ }
+    ensures fields { λ _. ⌜ now (fields .exit) ≡ sets (now (fields .entry)) (before .writes) (indices (writesAt numbers «text_field» (now (text .entry)) index field)) ⌝ }
+    ensures lens { λ _. ⌜ now (lens .exit) ≡ sets (now (lens .entry)) (before .writes) (lengths (writesAt numbers «text_field» (now (text .entry)) index field)) ⌝ }
+    ensures bytes { λ _. ⌜ now (bytes .exit) ≡ sets (now (bytes .entry)) (before .bytes) (allBytes (writesAt numbers «text_field» (now (text .entry)) index field)) ⌝ }
+{
+    let mut own = [0; 256];
+    match field_write(index, field, numbers, text_field, text, &mut own) {
+        OptionFieldWrite::Some(write) => {
+            let len = write.len as usize;
+            put(fields, before.writes, index as u8);
+            put(lens, before.writes, write.len);
+            put_all(bytes, before.bytes, &own[..len]);
+            WriteCounts {
+                writes: before.writes + 1,
+                bytes: before.bytes + len,
+            }
+        }
+        OptionFieldWrite::None => before,
+    }
+}
+
 // The planned writes by rising offset: the index of each one's field, the count of its bytes, and all their bytes
 // one behind the other. Each slice takes as many as it holds; the answer is how many writes there are.
 pub fn planned_writes(
@@ -404,29 +444,26 @@ pub fn planned_writes(
     ensures bytes { λ _. ⌜ now (bytes .exit) ≡ laidInto (allBytes (plannedWrites numbers «text_field» (now (text .entry)))) (now (bytes .entry)) ⌝ }
 {
     let table = luminaire_fields();
-    let mut own = [0; 256];
-    let mut count = 0;
-    let mut total = 0;
+    let mut counts = WriteCounts {
+        writes: 0,
+        bytes: 0,
+    };
     let mut index = 0;
     while index < 18 {
-        if let OptionFieldWrite::Some(write) = field_write(
+        counts = lay_planned(
             index,
             table[index],
             numbers,
             text_field,
             text,
-            &mut own,
-        ) {
-            let len = write.len as usize;
-            put(fields, count, index as u8);
-            put(lens, count, write.len);
-            put_all(bytes, total, &own[..len]);
-            total += len;
-            count += 1;
-        }
+            fields,
+            lens,
+            bytes,
+            counts,
+        );
         index += 1;
     }
-    count
+    counts.writes
 }
 
 // Lays the stores of a stage behind the first so many, and answers how many there are then.

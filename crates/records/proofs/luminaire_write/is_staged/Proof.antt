@@ -28,5 +28,6 @@ returns-2 c = search needs
 -- src/luminaire_write.rt:192:1
 returns-3 : tie.Need-returns-3
 returns-3 c = rw (c .enum-told3 .given .1)
+
 pub is-staged-spec : {M : Type 1} → statement M
 is-staged-spec = tie.close (tie.spec enum-told enum-told-2 enum-told-3 returns returns-2 returns-3)

@@ -10,11 +10,9 @@ use mathlib.Core.List.{List}
 use mathlib.Core.Option.{Option}
 use Prim.Native.Nat.{ℕ, _≤_}
 use native.Mathlib.Omega.{arith}
-use lib.ListN.{length, take, replicate, length-replicate}
-use lib.Seq.{sets, length-sets}
-use Rattle.records.specs.Writes.{bytesFor, bytesIn, written, writeStores, storesAt}
-use Rattle.records.proofs.Laying.{front-laid}
-use Rattle.records.proofs.Stages.{bytes-fit, ToldWrite, told-write, told-nothing, stores-of-write, stores-of-none}
+use lib.ListN.{length, take, replicate}
+use Rattle.records.specs.Writes.{bytesFor, written, writeStores, storesAt}
+use Rattle.records.proofs.Stages.{bytes-fit, ToldWrite, told-write, front-told, told-nothing, stores-of-write, stores-of-none}
 use Rattle.records.proofs.Stores.{Laid, none-laid, laid-same, offsets-kept, values-kept}
 
 abbrev wanted : tie.Start → Option (List ℕ)
@@ -33,11 +31,7 @@ short c =
 
 -- its bytes are there
 laid : (c : tie.After-write) → take (c .write .given .0 .0 .len) (c .before .before .before .field-write .last .1 .1 .1 .1 .1 .0) ≡ told c .bytes
-laid c =
-    let t = told c in
-    ap (λ (b : List ℕ). take (c .write .given .0 .0 .len) b) (c .before .before .before .field-write .ensures .1 ∙ ap (λ (o : Option (List ℕ)). sets (replicate 256 0) 0 (bytesIn o)) (t .is))
-    ∙ ap (λ (k : ℕ). take k (sets (replicate 256 0) 0 (t .bytes))) (t .counts)
-    ∙ front-laid (t .bytes) (replicate 256 0) (omega (arith, short c, c .before .before .before .before .before .before .before .before .pre .0 .ends))
+laid c = front-told (told c) (replicate 256 0) (c .before .before .before .field-write .ensures .1) (omega (arith, short c, c .before .before .before .before .before .before .before .before .pre .0 .ends))
 
 -- and its stores
 all-laid : (c : tie.After-slice-known4) → (let w = c .before .before .before .before in let a = w .before .before .before .before .before .before .before .before .before .before .before .before .before .before .args in Laid (a .offsets .now) (a .values .now) (a .count) (storesAt (a .numbers) (a .text-field) (a .text .now) (a .index) (a .field)) (w .lay-write .last .1 .1 .1 .0) (w .lay-write .last .1 .1 .1 .1 .0) (w .lay-write .result))

@@ -85,11 +85,17 @@ add-result c = omega arith
 
 -- src/luminaire_write.rt:399:1
 same-length : tie.Need-same-length Inv-loop μ-loop
-same-length c = ap length (c .before .loop .inv .3) ∙ length-sets _ _ _
+same-length c =
+    let l = c .before in
+    let a = l .before .before .before .before .args in
+    ap length (l .loop .inv .3) ∙ length-sets (a .offsets .now) (a .count) (take (l .loop .i) (offsetsOf (singleBytes (a .offset) (a .bytes .now))))
 
 -- src/luminaire_write.rt:399:1
 same-length-2 : tie.Need-same-length-2 Inv-loop μ-loop
-same-length-2 c = ap length (c .before .loop .inv .4) ∙ length-sets _ _ _
+same-length-2 c =
+    let l = c .before in
+    let a = l .before .before .before .before .args in
+    ap length (l .loop .inv .4) ∙ length-sets (a .values .now) (a .count) (take (l .loop .i) (a .bytes .now))
 
 -- src/luminaire_write.rt:399:1
 returns : tie.Need-returns Inv-loop μ-loop

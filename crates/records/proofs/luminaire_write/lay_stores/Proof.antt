@@ -22,31 +22,40 @@ use Rattle.records.proofs.Stores.{Laid, none-laid, laid-same, field-lai
 
 abbrev Inv-loop : tie.InvT-loop
 Inv-loop numbers text-field text offsets₀ values₀ table count₀ index₀ offsets values count index = (index ≤ 18) × (table ≡ luminaireFields) × (count ≤ 257 * index) × Laid offsets₀ values₀ 0 (gather (storesAt numbers text-field text) (take index luminaireFields)) offsets values count
+
 abbrev μ-loop : tie.MeasureT-loop
 μ-loop numbers text-field text offsets₀ values₀ table count₀ index₀ offsets values count index = 18 - index
+
 -- src/luminaire_write.rt:515:17
 luminaire-fields-requires : tie.Need-luminaire-fields-requires Inv-loop μ-loop
 luminaire-fields-requires c κs = search needs
+
 -- src/luminaire_write.rt:518:5
 loop-holds : tie.Need-loop-holds Inv-loop μ-loop
 loop-holds c = (omega arith, c .luminaire-fields .ensures, omega arith, none-laid)
+
 -- src/luminaire_write.rt:521:13
 mul-lay-field : tie.Need-mul-lay-field Inv-loop μ-loop
 mul-lay-field c = search needs
+
 -- src/luminaire_write.rt:521:13
 array-copy-out-lay-field : tie.Need-array-copy-out-lay-field Inv-loop μ-loop
 array-copy-out-lay-field c = search needs
+
 -- src/luminaire_write.rt:519:9
 lay-field-requires : tie.Need-lay-field-requires Inv-loop μ-loop
 lay-field-requires c κs =
     let l = c .before .before .before .before in
     (table-within _ (l .loop .inv .1) (l .loop .index) _ (omega arith), omega (arith, l .loop .inv .2))
+
 -- src/luminaire_write.rt:529:9
 add-index : tie.Need-add-index Inv-loop μ-loop
 add-index c = omega arith
+
 -- src/luminaire_write.rt:518:5
 loop-less : tie.Need-loop-less Inv-loop μ-loop
 loop-less c = omega arith
+
 -- src/luminaire_write.rt:518:5
 loop-again : tie.Need-loop-again Inv-loop μ-loop
 loop-again c =
@@ -56,19 +65,24 @@ loop-again c =
     let s = l .loop .inv in
     let e = w .lay-field .ensures in
     (omega arith, s .1, field-few (a .numbers) (a .text-field) (a .text .now) _ (s .1) (l .loop .index) _ (omega arith) (s .2) (e .0), field-laid (a .numbers) (a .text-field) (a .text .now) _ (s .1) (l .loop .index) _ (omega arith) (s .3) e)
+
 -- src/luminaire_write.rt:504:1
 same-length : tie.Need-same-length Inv-loop μ-loop
 same-length c = offsets-kept (c .before .loop .inv .3)
+
 -- src/luminaire_write.rt:504:1
 same-length-2 : tie.Need-same-length-2 Inv-loop μ-loop
 same-length-2 c = values-kept (c .before .loop .inv .3)
+
 -- src/luminaire_write.rt:504:1
 returns : tie.Need-returns Inv-loop μ-loop
 returns c =
     let l = c .before in
     let a = l .before .before .before .before .before .args in
     let d = laid-same (all-stores (a .numbers) (a .text-field) (a .text .now) (l .loop .index) (omega arith)) (l .loop .inv .3) in
-    (d .count ∙ zero-add _, (d .offsets ∙ sets-laid _ _, d .values ∙ sets-laid _ _))
+    let ss = planStores (a .numbers) (a .text-field) (a .text .now) in
+    (d .count ∙ zero-add (length ss), (d .offsets ∙ sets-laid (offsetsOf ss) (a .offsets .now), d .values ∙ sets-laid (valuesOf ss) (a .values .now)))
+
 pub lay-stores-spec : {M : Type 1} → statement M
 lay-stores-spec =
     tie.close

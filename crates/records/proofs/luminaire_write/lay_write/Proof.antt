@@ -21,25 +21,32 @@ use Rattle.records.proofs.Stores.{Laid, none-laid, laid-same, laid-as, 
 
 abbrev Inv-loop : tie.InvT-loop
 Inv-loop index field bytes offsets₀ values₀ count terminator n₀ place₀ offsets values n place = (place ≤ 3) × (WithinBank field) × (length bytes ≤ field .len) × (n ≤ 65000 + 256 * place) × Laid offsets₀ values₀ count (flat (stageStores bytes) (take place (stagesOf index field (length bytes)))) offsets values n
+
 abbrev μ-loop : tie.MeasureT-loop
 μ-loop index field bytes offsets₀ values₀ count terminator n₀ place₀ offsets values n place = 3 - place
+
 -- src/luminaire_write.rt:465:5
 loop-holds : tie.Need-loop-holds Inv-loop μ-loop
 loop-holds c =
     let s = c .before .before .before in
     (omega arith, s .pre .0, s .pre .1 .0, s .pre .1 .1, none-laid)
+
 -- src/luminaire_write.rt:466:48
 stage-of-requires : tie.Need-stage-of-requires Inv-loop μ-loop
 stage-of-requires c κs = c .before .loop .inv .1
+
 -- src/luminaire_write.rt:466:39
 enum-known-stage : tie.Need-enum-known-stage Inv-loop μ-loop
 enum-known-stage c = search needs
+
 -- src/luminaire_write.rt:469:36
 slice-aggregate-bytes : tie.Need-slice-aggregate-bytes Inv-loop μ-loop
 slice-aggregate-bytes c = search needs
+
 -- src/luminaire_write.rt:469:17
 bytes-requires : tie.Need-bytes-requires Inv-loop μ-loop
 bytes-requires c κs = search needs
+
 -- src/luminaire_write.rt:467:13
 lay-stage-requires : tie.Need-lay-stage-requires Inv-loop μ-loop
 lay-stage-requires c κs =
@@ -48,14 +55,18 @@ lay-stage-requires c κs =
     let a = l .before .before .before .before .args in
     let fits = stage-fits (a .index) (a .field) (a .bytes .now) (l .loop .inv .1) (l .loop .inv .2) (l .loop .place) (told-stage _ (g .before .before .stage-of .ensures) (g .stage .given .1)) in
     (rw (c .before .before .bytes .ensures) fits, omega (arith, l .loop .inv .3))
+
 enum-told : tie.Need-enum-told Inv-loop μ-loop
 enum-told c = search needs
+
 -- src/luminaire_write.rt:475:9
 add-place : tie.Need-add-place Inv-loop μ-loop
 add-place c = omega arith
+
 -- src/luminaire_write.rt:465:5
 loop-less : tie.Need-loop-less Inv-loop μ-loop
 loop-less c = omega arith
+
 -- src/luminaire_write.rt:465:5
 loop-again : tie.Need-loop-again Inv-loop μ-loop
 loop-again c =
@@ -73,12 +84,15 @@ loop-again c =
     let told = told-stage (getElem? ss (l .loop .place)) (c .before .stage-of .ensures) (t .1 .given .1) in
     (omega arith, s .1, s .2, omega (arith, s .3, t .4), laid-as (t .2) (t .3) (t .4) (none-next (stageStores (a .bytes .now)) ss (l .loop .place) (s .4) told)))
     (c .match .came)
+
 -- src/luminaire_write.rt:449:1
 same-length : tie.Need-same-length Inv-loop μ-loop
 same-length c = offsets-kept (c .before .loop .inv .4)
+
 -- src/luminaire_write.rt:449:1
 same-length-2 : tie.Need-same-length-2 Inv-loop μ-loop
 same-length-2 c = values-kept (c .before .loop .inv .4)
+
 -- src/luminaire_write.rt:449:1
 returns : tie.Need-returns Inv-loop μ-loop
 returns c =
@@ -86,6 +100,7 @@ returns c =
     let a = l .before .before .before .before .args in
     let d = laid-same (ap (flat (stageStores (a .bytes .now))) (take-all (l .loop .place) (stagesOf (a .index) (a .field) (length (a .bytes .now))) (omega (arith, few-stages (a .index) (a .field) (length (a .bytes .now)))))) (l .loop .inv .4) in
     (d .count, (d .offsets, d .values))
+
 pub lay-write-spec : {M : Type 1} → statement M
 lay-write-spec =
     tie.close

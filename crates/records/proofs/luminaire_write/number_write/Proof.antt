@@ -93,7 +93,10 @@ loop-again c =
 
 -- src/luminaire_write.rt:314:1
 same-length : tie.Need-same-length Inv-loop μ-loop
-same-length c = ap length (c .before .loop .inv .1) ∙ length-sets _ _ _
+same-length c =
+    let l = c .before in
+    let s = l .before .before .before .before .before .before .args in
+    ap length (l .loop .inv .1) ∙ length-sets (s .bytes .now) 0 (take (l .loop .i) (lowBytes (s .field .len) (l .before .before .value .given .0 .0)))
 
 -- src/luminaire_write.rt:314:1
 returns-2 : tie.Need-returns-2 Inv-loop μ-loop

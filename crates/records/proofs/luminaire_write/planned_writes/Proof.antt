@@ -3,112 +3,86 @@ use Rattle.records.proofs.luminaire_write.planned_writes.Tie as tie
 use Rattle.records.proofs.luminaire_write.planned_writes.Reads as reads
 use Rattle.records.proofs.luminaire_write.planned_writes.Lts as lts
 use Rattle.bank.proofs.luminaire_fields.Reads as luminaire-fields-reads
-use Rattle.records.proofs.luminaire_write.field_write.Reads as field-write-reads
-use Rattle.records.proofs.luminaire_write.put.Reads as put-reads
-use Rattle.records.proofs.luminaire_write.put_all.Reads as put-all-reads
+use Rattle.records.proofs.luminaire_write.lay_planned.Reads as lay-planned-reads
+use mathlib.Core.Path.{_≡_, refl, sym, ap, _∙_}
+use Prim.Native.Nat.{ℕ, _+_, _-_, _*_, _≤_}
+use native.Mathlib.Omega.{arith}
+use borrow.Author.Needs.{needs}
+use lib.ListN.{take}
+use Rattle.bank.specs.Fields.{luminaireFields}
+use Rattle.records.specs.Writes.{gather, writesAt, plannedWrites, indices, lengths, allBytes}
+use Rattle.records.proofs.Laying.{sets-laid}
+use Rattle.records.proofs.Table.{table-within}
+use Rattle.records.proofs.Planned.{Planned, none-planned, field-planned, counts-few, all-planned, fields-kept, lens-kept, bytes-kept, planned-as}
 
 abbrev Inv-loop : tie.InvT-loop
-Inv-loop numbers text-field text fields₀ lens₀ bytes₀ table own₀ count₀ total₀ index₀ fields lens bytes own count total index =
-    ?
+Inv-loop numbers text-field text fields₀ lens₀ bytes₀ table counts₀ index₀ fields lens bytes counts index = (index ≤ 18) × (table ≡ luminaireFields) × (counts .writes ≤ index) × (counts .bytes ≤ 256 * index) × Planned fields₀ lens₀ bytes₀ (gather (writesAt numbers text-field text) (take index luminaireFields)) fields lens bytes counts
 
 abbrev μ-loop : tie.MeasureT-loop
-μ-loop numbers text-field text fields₀ lens₀ bytes₀ table own₀ count₀ total₀ index₀ fields lens bytes own count total index =
-    ?
+μ-loop numbers text-field text fields₀ lens₀ bytes₀ table counts₀ index₀ fields lens bytes counts index = 18 - index
 
--- src/luminaire_write.rt:402:17
+-- src/luminaire_write.rt:446:17
 luminaire-fields-requires : tie.Need-luminaire-fields-requires Inv-loop μ-loop
-luminaire-fields-requires c κs = ?
+luminaire-fields-requires c κs = search needs
 
--- src/luminaire_write.rt:407:5
+-- src/luminaire_write.rt:452:5
 loop-holds : tie.Need-loop-holds Inv-loop μ-loop
-loop-holds c = ?
+loop-holds c = (omega arith, c .luminaire-fields .ensures, omega arith, omega arith, none-planned)
 
--- src/luminaire_write.rt:410:13
-mul-field-write : tie.Need-mul-field-write Inv-loop μ-loop
-mul-field-write c = ?
+-- src/luminaire_write.rt:455:13
+mul-lay-planned : tie.Need-mul-lay-planned Inv-loop μ-loop
+mul-lay-planned c = search needs
 
--- src/luminaire_write.rt:410:13
-array-copy-out-field-write : tie.Need-array-copy-out-field-write Inv-loop μ-loop
-array-copy-out-field-write c = ?
+-- src/luminaire_write.rt:455:13
+array-copy-out-lay-planned : tie.Need-array-copy-out-lay-planned Inv-loop μ-loop
+array-copy-out-lay-planned c = search needs
 
--- src/luminaire_write.rt:414:13
-slice-aggregate-field-write : tie.Need-slice-aggregate-field-write Inv-loop μ-loop
-slice-aggregate-field-write c = ?
+-- src/luminaire_write.rt:453:9
+lay-planned-requires : tie.Need-lay-planned-requires Inv-loop μ-loop
+lay-planned-requires c κs =
+    let l = c .before .before .before .before .before in
+    let s = l .loop .inv in
+    (omega arith, (table-within _ (s .1) (l .loop .index) _ (omega arith), (omega (arith, s .2), omega (arith, s .3))))
 
--- src/luminaire_write.rt:408:48
-field-write-requires : tie.Need-field-write-requires Inv-loop μ-loop
-field-write-requires c κs = ?
-
--- src/luminaire_write.rt:408:39
-enum-known-write : tie.Need-enum-known-write Inv-loop μ-loop
-enum-known-write c = ?
-
--- src/luminaire_write.rt:416:23
-cast-len : tie.Need-cast-len Inv-loop μ-loop
-cast-len c = ?
-
--- src/luminaire_write.rt:417:32
-cast-put : tie.Need-cast-put Inv-loop μ-loop
-cast-put c = ?
-
--- src/luminaire_write.rt:417:13
-put-requires : tie.Need-put-requires Inv-loop μ-loop
-put-requires c κs = ?
-
--- src/luminaire_write.rt:418:13
-put-requires-2 : tie.Need-put-requires-2 Inv-loop μ-loop
-put-requires-2 c κs = ?
-
--- src/luminaire_write.rt:419:35
-array-share-prefix-own : tie.Need-array-share-prefix-own Inv-loop μ-loop
-array-share-prefix-own c = ?
-
--- src/luminaire_write.rt:419:35
-slice-aggregate-put-all : tie.Need-slice-aggregate-put-all Inv-loop μ-loop
-slice-aggregate-put-all c = ?
-
--- src/luminaire_write.rt:419:13
-put-all-requires : tie.Need-put-all-requires Inv-loop μ-loop
-put-all-requires c κs = ?
-
--- src/luminaire_write.rt:420:13
-add-total : tie.Need-add-total Inv-loop μ-loop
-add-total c = ?
-
--- src/luminaire_write.rt:421:13
-add-count : tie.Need-add-count Inv-loop μ-loop
-add-count c = ?
-
-enum-told : tie.Need-enum-told Inv-loop μ-loop
-enum-told c = ?
-
--- src/luminaire_write.rt:423:9
+-- src/luminaire_write.rt:464:9
 add-index : tie.Need-add-index Inv-loop μ-loop
-add-index c = ?
+add-index c = omega arith
 
--- src/luminaire_write.rt:407:5
+-- src/luminaire_write.rt:452:5
 loop-less : tie.Need-loop-less Inv-loop μ-loop
-loop-less c = ?
+loop-less c = omega arith
 
--- src/luminaire_write.rt:407:5
+-- src/luminaire_write.rt:452:5
 loop-again : tie.Need-loop-again Inv-loop μ-loop
-loop-again c = ?
+loop-again c =
+    let w = c .before .before .before .before .before .before in
+    let l = w .before .before .before .before .before .before in
+    let a = l .before .before .before .before .before .before .args in
+    let s = l .loop .inv in
+    let e = w .lay-planned .ensures in
+    let few = counts-few (a .numbers) (a .text-field) (a .text .now) _ (s .1) (l .loop .index) _ (omega arith) (s .2) (s .3) (e .0) in
+    (omega arith, s .1, few .0, few .1, field-planned (a .numbers) (a .text-field) (a .text .now) _ (s .1) (l .loop .index) _ (omega arith) (s .4) e)
 
--- src/luminaire_write.rt:389:1
+-- src/luminaire_write.rt:433:1
 same-length : tie.Need-same-length Inv-loop μ-loop
-same-length c = ?
+same-length c = fields-kept (c .before .loop .inv .4)
 
--- src/luminaire_write.rt:389:1
+-- src/luminaire_write.rt:433:1
 same-length-2 : tie.Need-same-length-2 Inv-loop μ-loop
-same-length-2 c = ?
+same-length-2 c = lens-kept (c .before .loop .inv .4)
 
--- src/luminaire_write.rt:389:1
+-- src/luminaire_write.rt:433:1
 same-length-3 : tie.Need-same-length-3 Inv-loop μ-loop
-same-length-3 c = ?
+same-length-3 c = bytes-kept (c .before .loop .inv .4)
 
--- src/luminaire_write.rt:389:1
+-- src/luminaire_write.rt:433:1
 returns : tie.Need-returns Inv-loop μ-loop
-returns c = ?
+returns c =
+    let l = c .before in
+    let a = l .before .before .before .before .before .before .args in
+    let d = planned-as (l .loop .inv .4) (all-planned (a .numbers) (a .text-field) (a .text .now) (l .loop .index) (omega arith)) in
+    let ws = plannedWrites (a .numbers) (a .text-field) (a .text .now) in
+    (d .writes, (d .fields ∙ sets-laid (indices ws) (a .fields .now), (d .lens ∙ sets-laid (lengths ws) (a .lens .now), d .bytes ∙ sets-laid (allBytes ws) (a .bytes .now))))
 
 pub planned-writes-spec : {M : Type 1} → statement M
 planned-writes-spec =
@@ -118,21 +92,9 @@ planned-writes-spec =
     μ-loop
     luminaire-fields-requires
     loop-holds
-    mul-field-write
-    array-copy-out-field-write
-    slice-aggregate-field-write
-    field-write-requires
-    enum-known-write
-    cast-len
-    cast-put
-    put-requires
-    put-requires-2
-    array-share-prefix-own
-    slice-aggregate-put-all
-    put-all-requires
-    add-total
-    add-count
-    enum-told
+    mul-lay-planned
+    array-copy-out-lay-planned
+    lay-planned-requires
     add-index
     loop-less
     loop-again

@@ -51,7 +51,10 @@ loop-again c =
 
 -- src/luminaire_write.rt:117:1
 same-length : tie.Need-same-length Inv-loop μ-loop
-same-length c = ap length (c .before .loop .inv .1) ∙ length-sets _ _ _
+same-length c =
+    let l = c .before in
+    let a = l .before .before .before .args in
+    ap length (l .loop .inv .1) ∙ length-sets (a .out .now) (a .at) (take (l .loop .i) (a .bytes .now))
 
 -- src/luminaire_write.rt:117:1
 returns : tie.Need-returns Inv-loop μ-loop

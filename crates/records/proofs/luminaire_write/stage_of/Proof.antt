@@ -25,9 +25,11 @@ is-staged-requires c κs = search needs
 -- src/luminaire_write.rt:210:9
 returns : tie.Need-returns
 returns c = rw (c .match .keys1, one (c .before))
+
 -- src/luminaire_write.rt:210:9
 returns-2 : tie.Need-returns-2
 returns-2 c = rw (one (c .before)) (ap optionWriteStage (behind-one _ _ (c .match .rest .1)))
+
 -- src/luminaire_write.rt:227:21
 add-t14 : tie.Need-add-t14
 add-t14 c = search needs
@@ -35,17 +37,21 @@ add-t14 c = search needs
 -- src/luminaire_write.rt:204:1
 returns-3 : tie.Need-returns-3
 returns-3 c = rw (c .match2 .keys1, three (c .before))
+
 -- src/luminaire_write.rt:204:1
 returns-4 : tie.Need-returns-4
 returns-4 c = rw (c .match2 .keys2, three (c .before))
+
 -- src/luminaire_write.rt:204:1
 returns-5 : tie.Need-returns-5
 returns-5 c = rw (c .match2 .keys3, three (c .before))
+
 -- src/luminaire_write.rt:204:1
 returns-6 : tie.Need-returns-6
 returns-6 c =
     let no = c .match2 .rest in
     rw (three (c .before)) (ap optionWriteStage (behind-three _ _ _ _ (no .0 .0 .1) (no .0 .1) (no .1)))
+
 pub stage-of-spec : {M : Type 1} → statement M
 stage-of-spec =
     tie.close

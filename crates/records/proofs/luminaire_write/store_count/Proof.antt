@@ -8,15 +8,19 @@ use mathlib.Core.Path.{refl}
 -- src/luminaire_write.rt:543:43
 slice-aggregate-lay-stores : tie.Need-slice-aggregate-lay-stores
 slice-aggregate-lay-stores c = refl
+
 -- src/luminaire_write.rt:543:57
 slice-aggregate-lay-stores-2 : tie.Need-slice-aggregate-lay-stores-2
 slice-aggregate-lay-stores-2 c = refl
+
 -- src/luminaire_write.rt:543:5
 lay-stores-requires : tie.Need-lay-stores-requires
 lay-stores-requires c κs = tt
+
 -- src/luminaire_write.rt:538:1
 returns : tie.Need-returns
 returns c = c .before .before .lay-stores .ensures .0
+
 pub store-count-spec : {M : Type 1} → statement M
 store-count-spec =
     tie.close

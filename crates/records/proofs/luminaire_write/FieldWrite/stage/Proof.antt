@@ -26,6 +26,7 @@ enum-told c = search needs
 -- src/luminaire_write.rt:286:13
 returns : tie.Need-returns
 returns c = rw (told-field (getElem? luminaireFields (c .before .before .before .args .self .field)) (c .before .before .of-index .ensures) (c .enum-told .given .1))
+
 -- src/luminaire_write.rt:288:37
 cast-stage-of : tie.Need-cast-stage-of
 cast-stage-of c = search needs
@@ -35,11 +36,13 @@ stage-of-requires : tie.Need-stage-of-requires
 stage-of-requires c κs =
     let i = c .before .before .before .before in
     within-bank (i .before .args .self .field) (told-field (getElem? luminaireFields (i .before .args .self .field)) (i .of-index .ensures) (c .before .before .field .given .1))
+
 -- src/luminaire_write.rt:282:5
 returns-2 : tie.Need-returns-2
 returns-2 c =
     let i = c .before .before .before .before .before in
     rw (told-field (getElem? luminaireFields (i .before .args .self .field)) (i .of-index .ensures) (c .before .before .before .field .given .1)) (c .stage-of .ensures)
+
 pub stage-spec : {M : Type 1} → statement M
 stage-spec =
     tie.close

@@ -25,6 +25,7 @@ enum-told c = search needs
 -- src/luminaire_write.rt:272:13
 returns : tie.Need-returns
 returns c = rw (told-field (getElem? luminaireFields (c .before .before .before .args .self .field)) (c .before .before .of-index .ensures) (c .enum-told .given .1))
+
 -- src/luminaire_write.rt:274:29
 cast-is-staged : tie.Need-cast-is-staged
 cast-is-staged c = search needs
@@ -38,11 +39,13 @@ returns-2 : tie.Need-returns-2
 returns-2 c =
     let i = c .before .before .before .before .before .before in
     rw (told-field (getElem? luminaireFields (i .before .args .self .field)) (i .of-index .ensures) (c .before .before .before .before .field .given .1), sym (c .before .is-staged .ensures) ∙ c .if1 .taken)
+
 -- src/luminaire_write.rt:268:5
 returns-3 : tie.Need-returns-3
 returns-3 c =
     let i = c .before .before .before .before .before .before in
     rw (told-field (getElem? luminaireFields (i .before .args .self .field)) (i .of-index .ensures) (c .before .before .before .before .field .given .1), sym (c .before .is-staged .ensures) ∙ c .if1 .left)
+
 pub stages-spec : {M : Type 1} → statement M
 stages-spec =
     tie.close

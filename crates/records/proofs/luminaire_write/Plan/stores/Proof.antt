@@ -14,6 +14,7 @@ use Rattle.bus.proofs.Lists.{length-laid}
 use Rattle.bank.specs.Refusal.{firstOf}
 use Rattle.bank.proofs.Options.{told-refusal}
 use Rattle.records.specs.declared.ResultUsize.the-variants.{Ok}
+use Rattle.records.specs.Writes.{offsetsOf, valuesOf}
 use Rattle.records.specs.Plan.{planChecks, storesOf}
 use Rattle.records.proofs.Plans.{plan-refused, offsets-short, values-short, plan-accepted}
 
@@ -24,19 +25,24 @@ sound c = told-refusal _ (c .before .before .refusal .ensures) (c .enum-told .gi
 -- src/luminaire_write.rt:653:47
 refusal-requires : tie.Need-refusal-requires
 refusal-requires c κs = search needs
+
 -- src/luminaire_write.rt:653:36
 enum-known-refusal : tie.Need-enum-known-refusal
 enum-known-refusal c = search needs
+
 -- src/luminaire_write.rt:654:13
 returns : tie.Need-returns
 returns c =
     let a = c .before .before .before .before .before .before .before .args in
     plan-refused (a .self) (a .text .now) (a .offsets .now) (a .values .now) (told-refusal (firstOf (planChecks (a .self) (a .text .now))) (c .before .before .before .refusal .ensures) (c .before .refusal2 .given .1))
+
 enum-told : tie.Need-enum-told
 enum-told c = search needs
+
 -- src/luminaire_write.rt:657:13
 store-count-requires : tie.Need-store-count-requires
 store-count-requires c κs = search needs
+
 -- src/luminaire_write.rt:659:13
 returns-2 : tie.Need-returns-2
 returns-2 c =
@@ -44,6 +50,7 @@ returns-2 c =
     let a = n .before .before .before .before .before .before .before .args in
     let few = n .store-count .ensures in
     offsets-short (a .self) (a .text .now) (a .offsets .now) (a .values .now) (sound (n .before)) (omega arith)
+
 -- src/luminaire_write.rt:662:13
 returns-3 : tie.Need-returns-3
 returns-3 c =
@@ -51,19 +58,25 @@ returns-3 c =
     let a = n .before .before .before .before .before .before .before .args in
     let few = n .store-count .ensures in
     values-short (a .self) (a .text .now) (a .offsets .now) (a .values .now) (sound (n .before)) (omega arith) (omega arith)
+
 -- src/luminaire_write.rt:664:25
 lay-stores-requires : tie.Need-lay-stores-requires
 lay-stores-requires c κs = search needs
+
 -- src/luminaire_write.rt:648:5
 same-length : tie.Need-same-length
 same-length c =
     let l = c .before .before .before .before in
-    ap length (l .lay-stores .ensures .1 .0) ∙ length-laid _ _
+    let a = l .before .before .before .before .before .before .before .before .before .before .before .before .args in
+    ap length (l .lay-stores .ensures .1 .0) ∙ length-laid (offsetsOf (storesOf (a .self) (a .text .now))) (a .offsets .now)
+
 -- src/luminaire_write.rt:648:5
 same-length-2 : tie.Need-same-length-2
 same-length-2 c =
     let l = c .before .before .before .before in
-    ap length (l .lay-stores .ensures .1 .1) ∙ length-laid _ _
+    let a = l .before .before .before .before .before .before .before .before .before .before .before .before .args in
+    ap length (l .lay-stores .ensures .1 .1) ∙ length-laid (valuesOf (storesOf (a .self) (a .text .now))) (a .values .now)
+
 -- src/luminaire_write.rt:648:5
 returns-4 : tie.Need-returns-4
 returns-4 c =
@@ -74,6 +87,7 @@ returns-4 c =
     let e = l .lay-stores .ensures in
     let d = plan-accepted (a .self) (a .text .now) (a .offsets .now) (a .values .now) (sound (n .before)) (omega arith) (omega arith) in
     (ap Ok (e .0) ∙ d .0, (e .1 .0 ∙ d .1 .0, e .1 .1 ∙ d .1 .1))
+
 pub stores-spec : {M : Type 1} → statement M
 stores-spec =
     tie.close
