@@ -6,8 +6,8 @@ use Prim.Native.Nat.{ℕ, zero, suc, _+_, _≤_, _<_}
 use native.Mathlib.Nat.{zero-add, add-zero, add-suc, suc-add}
 use native.Mathlib.Numerals.{add-one}
 use native.Mathlib.Omega.{arith}
-use lib.ListN.{length, take, drop, set, getD}
-use lib.Seq.{sets, take-nil, take-suc, take-at, length-take-le}
+use lib.ListN.{length, take, drop, set, getD, length-set, take-append-drop}
+use lib.Seq.{sets, set-out, length-sets, take-nil, take-suc, take-at, length-take-le}
 use Rattle.bus.specs.Value.{laidInto}
 use Rattle.bus.proofs.Lists.{laid-whole}
 
@@ -23,6 +23,18 @@ module _ {A : Type 0} where
   sets-cons : (y : A) (l : List A) (i : ℕ) (xs : List A) → sets (y ∷ l) (suc i) xs ≡ y ∷ sets l i xs
   sets-cons y l i [] = refl
   sets-cons y l i (x ∷ xs) = sets-cons y (set l i x) (suc i) xs
+
+  -- nothing is stored behind the end
+  pub sets-behind : (l : List A) (i : ℕ) (xs : List A) → length l ≤ i → sets l i xs ≡ l
+  sets-behind l i [] h = refl
+  sets-behind l i (x ∷ xs) h = sets-behind (set l i x) (suc i) xs (rw length-set (omega arith)) ∙ set-out l i x h
+
+  -- so a slice that is full takes no more
+  pub sets-full : (l : List A) (at i : ℕ) (xs : List A) → i ≤ length xs → length l ≤ at + i → sets l at (take i xs) ≡ sets l at xs
+  sets-full l at i xs k h =
+      let all : sets l at xs ≡ sets (sets l at (take i xs)) (at + i) (drop i xs) =
+      ap (sets l at) (sym (take-append-drop i xs)) ∙ sets-append l at (take i xs) (drop i xs) ∙ ap (λ (n : ℕ). sets (sets l at (take i xs)) (at + n) (drop i xs)) (length-take-le i xs k) in
+      sym (all ∙ sets-behind (sets l at (take i xs)) (at + i) (drop i xs) (rw length-sets h))
 
   -- one more of a list's elements
   pub sets-next : (l : List A) (at i : ℕ) (xs : List A) (d : A) → i < length xs → set (sets l at (take i xs)) (at + i) (getD xs i d) ≡ sets l at (take (i + 1) xs)

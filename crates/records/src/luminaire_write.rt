@@ -1,5 +1,7 @@
 // The plan of a write to bank 1: its writes, their stages and stores, and why it may be refused (luminaire_write.rs).
 use crate::ResultUsize;
+use crate::output::put;
+use crate::output::put_all;
 use bank::Bank1Layout;
 use bank::FieldKind;
 use bank::LuminaireField;
@@ -100,27 +102,6 @@ impl LuminaireNumbers {
             FieldKind::Number { patch, rule: _ } => self.of_patch(patch),
             FieldKind::Text(_) => OptionU32::None,
         }
-    }
-}
-
-// Stores a byte at an index, where the slice has one.
-fn put(out: &mut [u8], at: usize, byte: u8)
-    ensures { λ _. ⌜ now (out .exit) ≡ set (now (out .entry)) at byte ⌝ }
-{
-    if at < out.len() {
-        out[at] = byte;
-    }
-}
-
-// Stores bytes from an index on, as far as the slice goes.
-fn put_all(out: &mut [u8], at: usize, bytes: &[u8])
-    requires { ⌜ at + length (now bytes) ≤ 65536 ⌝ }
-    ensures { λ _. ⌜ now (out .exit) ≡ sets (now (out .entry)) at (now (bytes .entry)) ⌝ }
-{
-    let mut i = 0;
-    while i < bytes.len() {
-        put(out, at + i, bytes[i]);
-        i += 1;
     }
 }
 

@@ -4,8 +4,8 @@ use Rattle.records.proofs.luminaire_write.lay_planned.Tie as tie
 use Rattle.records.proofs.luminaire_write.lay_planned.Reads as reads
 use Rattle.records.proofs.luminaire_write.lay_planned.Lts as lts
 use Rattle.records.proofs.luminaire_write.field_write.Reads as field-write-reads
-use Rattle.records.proofs.luminaire_write.put.Reads as put-reads
-use Rattle.records.proofs.luminaire_write.put_all.Reads as put-all-reads
+use Rattle.records.proofs.output.put.Reads as put-reads
+use Rattle.records.proofs.output.put_all.Reads as put-all-reads
 use mathlib.Core.Path.{_≡_, refl, sym, ap, _∙_}
 use mathlib.Core.List.{List}
 use mathlib.Core.Option.{Option}
@@ -76,10 +76,7 @@ slice-aggregate-put-all c =
 
 -- src/luminaire_write.rt:421:13
 put-all-requires : tie.Need-put-all-requires
-put-all-requires c κs =
-    let w = c .before .before .before .before .before .before .before .before .before .before .before .before in
-    let s = w .before .before .before .before .before .before .before .before .before in
-    omega (arith, ap length (laid w), short w, s .pre .1 .1 .1)
+put-all-requires c κs = search needs
 
 -- src/luminaire_write.rt:423:25
 add-t27 : tie.Need-add-t27

@@ -2,7 +2,7 @@ use Rattle.records.proofs.luminaire_write.lay_stage.Statement.{statemen
 use Rattle.records.proofs.luminaire_write.lay_stage.Tie as tie
 use Rattle.records.proofs.luminaire_write.lay_stage.Reads as reads
 use Rattle.records.proofs.luminaire_write.lay_stage.Lts as lts
-use Rattle.records.proofs.luminaire_write.put.Reads as put-reads
+use Rattle.records.proofs.output.put.Reads as put-reads
 use mathlib.Core.Path.{_≡_, refl, sym, ap, _∙_}
 use mathlib.Core.List.{List}
 use Prim.Native.Nat.{ℕ, _+_, _-_, _≤_, _<_}

@@ -4,7 +4,7 @@ use Rattle.records.proofs.luminaire_write.number_write.Reads as reads
 use Rattle.records.proofs.luminaire_write.number_write.Lts as lts
 use Rattle.records.proofs.luminaire_write.LuminaireNumbers.of_field.Reads as of-field-reads
 use Rattle.records.proofs.luminaire_write.byte_of.Reads as byte-of-reads
-use Rattle.records.proofs.luminaire_write.put.Reads as put-reads
+use Rattle.records.proofs.output.put.Reads as put-reads
 use mathlib.Core.Path.{_≡_, refl, sym, ap, _∙_}
 use mathlib.Core.List.{List}
 use mathlib.Core.Option.{none, some}

@@ -3,8 +3,8 @@ use Rattle.records.proofs.luminaire_write.text_write.Statement.{stateme
 use Rattle.records.proofs.luminaire_write.text_write.Tie as tie
 use Rattle.records.proofs.luminaire_write.text_write.Reads as reads
 use Rattle.records.proofs.luminaire_write.text_write.Lts as lts
-use Rattle.records.proofs.luminaire_write.put.Reads as put-reads
-use Rattle.records.proofs.luminaire_write.put_all.Reads as put-all-reads
+use Rattle.records.proofs.output.put.Reads as put-reads
+use Rattle.records.proofs.output.put_all.Reads as put-all-reads
 use mathlib.Core.Path.{_≡_, refl, sym, ap, _∙_}
 use mathlib.Core.List.{List, [], _∷_, _++_}
 use Prim.Native.Nat.{ℕ, _+_}
@@ -31,9 +31,7 @@ slice-aggregate-put-all c =
 
 -- src/luminaire_write.rt:342:9
 put-all-requires : tie.Need-put-all-requires
-put-all-requires c κs =
-    let a = c .before .before .before .before .before .args in
-    rw (length-take-le (a .field .len) (a .text .now) (omega arith)) (omega arith)
+put-all-requires c κs = search needs
 
 -- src/luminaire_write.rt:343:9
 same-length : tie.Need-same-length

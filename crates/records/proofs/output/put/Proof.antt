@@ -1,8 +1,8 @@
 use borrow.Author.Needs.{needs}
-use Rattle.records.proofs.luminaire_write.put.Statement.{statement}
-use Rattle.records.proofs.luminaire_write.put.Tie as tie
-use Rattle.records.proofs.luminaire_write.put.Reads as reads
-use Rattle.records.proofs.luminaire_write.put.Lts as lts
+use Rattle.records.proofs.output.put.Statement.{statement}
+use Rattle.records.proofs.output.put.Tie as tie
+use Rattle.records.proofs.output.put.Reads as reads
+use Rattle.records.proofs.output.put.Lts as lts
 use mathlib.Core.Path.{sym}
 use lib.Seq.{set-out}
 

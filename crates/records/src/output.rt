@@ -1,0 +1,31 @@
+// Bytes stored into a slice that may be too short for them.
+ghost use mathlib.Core.Path.{_≡_};
+ghost use lib.ListN.{set};
+ghost use lib.Seq.{sets};
+
+// Stores a byte at an index, where the slice has one.
+pub fn put(out: &mut [u8], at: usize, byte: u8)
+    ensures { λ _. ⌜ now (out .exit) ≡ set (now (out .entry)) at byte ⌝ }
+{
+    if at < out.len() {
+        out[at] = byte;
+    }
+}
+
+// Stores bytes from an index on, as far as the slice goes.
+pub fn put_all(out: &mut [u8], at: usize, bytes: &[u8])
+    ensures { λ _. ⌜ now (out .exit) ≡ sets (now (out .entry)) at (now (bytes .entry)) ⌝ }
+{
+    if out.len() <= at {
+        return;
+    }
+    let room = out.len() - at;
+    let mut i = 0;
+    while i < bytes.len() {
+        if room <= i {
+            return;
+        }
+        out[at + i] = bytes[i];
+        i += 1;
+    }
+}
