@@ -5,6 +5,7 @@ pub mod Refusals
 pub mod Table
 pub mod Stages
 pub mod Stores
+pub mod Order
 pub mod Planned
 pub mod Plans
 pub mod Numbers

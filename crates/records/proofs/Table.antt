@@ -11,6 +11,8 @@ use lib.Dec.{leb, lit≤}
 use lib.ListN.{length, getD, getElem?, take}
 use lib.Seq.{take-all}
 use Rattle.bus.proofs.Lists.{no-element, entry-in}
+use Rattle.bus.specs.declared.part251.LuminaireFormat.the-variants.{V3}
+use Rattle.bank.specs.declared.luminaire_write.FieldKind.the-variants.{LayoutId}
 use Rattle.bank.specs.declared.luminaire_write.LuminaireField.{LuminaireField}
 use Rattle.bank.specs.Fields.{luminaireFields, fieldEnd}
 use Rattle.bank.specs.declared.OptionUsize.{OptionUsize}
@@ -23,11 +25,11 @@ abbrev allWithin : List LuminaireField → Bool
 allWithin [] = true
 allWithin (f ∷ fs) = (leb (f .offset) 254 && leb (fieldEnd f) 256) && allWithin fs
 
-first-true : (a b : Bool) → (a && b) ≡ true → a ≡ true
+pub first-true : (a b : Bool) → (a && b) ≡ true → a ≡ true
 first-true true b e = refl
 first-true false b e = e
 
-second-true : (a b : Bool) → (a && b) ≡ true → b ≡ true
+pub second-true : (a b : Bool) → (a && b) ≡ true → b ≡ true
 second-true true b e = e
 second-true false b e = absurd (true≢false (sym e))
 
@@ -63,3 +65,24 @@ table-within t e i d h = rw e (within-bank i (table-entry i d h))
 pub all-stores : (n : LuminaireNumbers) (which : OptionUsize) (text : List ℕ) (i : ℕ) → 18 ≤ i → gather (storesAt n which text) (take i luminaireFields) ≡ planStores n which text
 unfolding planStores plannedWrites
 all-stores n which text i h = rw (take-all i luminaireFields (rw table-length h)) (sym (flat-gather writeStores (writesAt n which text) luminaireFields))
+
+-- the fields come by rising offset, each behind the end of the one before
+abbrev pub Sorted : ℕ → List LuminaireField → Type 0
+Sorted z [] = Unit {0}
+Sorted z (f ∷ fs) = (z ≤ f .offset) × Sorted (fieldEnd f) fs
+
+abbrev rises : ℕ → List LuminaireField → Bool
+rises z [] = true
+rises z (f ∷ fs) = leb z (f .offset) && rises (fieldEnd f) fs
+
+sorted : (z : ℕ) (fs : List LuminaireField) → rises z fs ≡ true → Sorted z fs
+sorted z [] t = tt
+sorted z (f ∷ fs) t = (leb-true z (f .offset) (first-true (leb z (f .offset)) (rises (fieldEnd f) fs) t), sorted (fieldEnd f) fs (second-true (leb z (f .offset)) (rises (fieldEnd f) fs) t))
+
+pub table-rises : Sorted 0 luminaireFields
+unfolding luminaireFields
+table-rises = sorted 0 luminaireFields refl
+
+-- stands for an entry behind the table's end
+abbrev pub none-field : LuminaireField
+none-field = record { offset = 0; len = 0; since = V3; kind = LayoutId }

@@ -1,23 +1,25 @@
 -- 01, "The plan, where a write enters": whether a plan is refused, and what it answers.
 -- Assumes nothing.
+use mathlib.Core.Path.{_≡_}
 use mathlib.Core.Bool.{Bool, false, not, cond, _||_}
 use mathlib.Core.List.{List, [], _∷_, _++_}
 use mathlib.Core.Option.{Option, none, some}
-use Prim.Native.Nat.{ℕ}
+use Prim.Native.Nat.{ℕ, _≤_}
 use lib.Dec.{ltb}
 use lib.ListN.{length}
+use Rattle.bus.specs.declared.OptionU8.{OptionU8}
 use Rattle.bus.specs.declared.part251.LuminaireFormat.{LuminaireFormat}
 use Rattle.bus.specs.Value.{laidInto}
 use Rattle.bank.specs.declared.OptionUsize.{OptionUsize}
 use Rattle.bank.specs.declared.refusal.Refusal.the-variants.{NumberNotAccepted, TextNotAccepted, UnknownMaskBits, UnknownField, SliceTooShort}
 use Rattle.bank.specs.declared.luminaire_write.LuminaireField.{LuminaireField}
 use Rattle.bank.specs.declared.luminaire_write.Bank1Layout.{Bank1Layout}
-use Rattle.bank.specs.Refusal.{Check, _when_, checked}
+use Rattle.bank.specs.Refusal.{Check, _when_, firstOf, checked}
 use Rattle.bank.specs.Fields.{luminaireFields, acceptsNumber, acceptsText}
 use Rattle.bank.specs.Writable.{formatIn, writeChecks}
 use Rattle.records.specs.declared.ResultUsize.{ResultUsize}
 use Rattle.records.specs.declared.luminaire_write.Plan.{Plan}
-use Rattle.records.specs.Writes.{wantedNumber, isFor, gather, Store, offsetsOf, valuesOf, planStores}
+use Rattle.records.specs.Writes.{wantedNumber, isFor, gather, Store, Each, offsetsOf, valuesOf, planStores}
 
 -- 7: "number not accepted", in a format, without which 4 has refused it
 abbrev pub rejects : Option LuminaireFormat → LuminaireField → ℕ → Bool
@@ -80,3 +82,9 @@ offsetsAfter p text os vs = checked (layChecks p text os vs) (λ _. os) (laidInt
 
 unfoldable pub valuesAfter : Plan → List ℕ → List ℕ → List ℕ → List ℕ
 valuesAfter p text os vs = checked (layChecks p text os vs) (λ _. vs) (laidInto (valuesOf (storesOf p text)) vs)
+
+-- No store of an accepted plan is past the last offset.
+abbrev pub EveryStoreInBank : Type 0
+EveryStoreInBank =
+    (p : Plan) (text : List ℕ) (last : ℕ) →
+    firstOf (planChecks p text) ≡ none → p .layout .«last_offset» ≡ OptionU8.Some last → Each (λ (s : Store). s .offset ≤ last) (storesOf p text)

@@ -1,10 +1,11 @@
 -- 01, "The plan, where a write enters": the planned writes, their stages and their stores.
 -- Assumes nothing.
+use mathlib.Core.Path.{_≡_}
 use mathlib.Core.Bool.{Bool, true, false, cond, _&&_}
 use mathlib.Core.List.{List, [], _∷_, _++_, map}
 use mathlib.Core.Option.{Option, none, some, Option·map}
-use Prim.Native.Nat.{ℕ, suc, _+_, _/_, _%_, _^_}
-use lib.Count.{trailingZeros}
+use Prim.Native.Nat.{ℕ, suc, _+_, _/_, _%_, _^_, _≤_, _<_}
+use lib.Count.{ones, trailingZeros}
 use lib.Dec.{eqb, leb}
 use lib.ListN.{length, take, drop, getElem?}
 use Rattle.bus.specs.Number.{lowBytes}
@@ -13,7 +14,7 @@ use Rattle.bank.specs.declared.OptionUsize.{OptionUsize}
 use Rattle.bank.specs.declared.luminaire_write.FieldKind.{FieldKind}
 use Rattle.bank.specs.declared.luminaire_write.FieldKind.the-variants.{LayoutId, Number, Text}
 use Rattle.bank.specs.declared.luminaire_write.LuminaireField.{LuminaireField}
-use Rattle.bank.specs.Fields.{luminaireFields, isTextKind}
+use Rattle.bank.specs.Fields.{luminaireFields, fieldEnd, isTextKind}
 use Rattle.records.specs.declared.luminaire_write.LuminaireNumbers.{LuminaireNumbers}
 use Rattle.records.specs.declared.luminaire_write.FieldWrite.{FieldWrite}
 use Rattle.records.specs.declared.luminaire_write.OptionFieldWrite.{OptionFieldWrite}
@@ -213,3 +214,66 @@ storesAt n which text place f = flat writeStores (writesAt n which text place f)
 -- first: a list of stores"
 unfoldable pub planStores : LuminaireNumbers → OptionUsize → List ℕ → List Store
 planStores n which text = flat writeStores (plannedWrites n which text)
+
+-- the mask bit of a number field
+abbrev bitOf : FieldKind → List ℕ
+bitOf LayoutId = []
+bitOf (Number patch r) = bitPlace patch ∷ []
+bitOf (Text t) = []
+
+-- "Mask bits 0 to 10 are the numbers in the order of `number_values`": so they come in the table too.
+abbrev pub EveryNumberHasItsBit : Type 0
+EveryNumberHasItsBit =
+    flat (λ (f : LuminaireField). bitOf (f .kind)) luminaireFields ≡ 0 ∷ 1 ∷ 2 ∷ 3 ∷ 4 ∷ 5 ∷ 6 ∷ 7 ∷ 8 ∷ 9 ∷ 10 ∷ []
+
+-- the write of a number
+abbrev pub ifNumber : FieldKind → Write → List Write
+ifNumber LayoutId w = []
+ifNumber (Number patch r) w = w ∷ []
+ifNumber (Text t) w = []
+
+abbrev pub numberWrites : List Write → List Write
+numberWrites ws = flat (λ (w : Write). ifNumber (w .field .kind) w) ws
+
+-- "The number of wanted numbers is the count of set mask bits": as many number writes are planned, where no other bit is set.
+abbrev pub EveryWantedNumberPlanned : Type 0
+EveryWantedNumberPlanned =
+    (n : LuminaireNumbers) (which : OptionUsize) (text : List ℕ) →
+    n .«patch_mask» ≤ 2047 → length (numberWrites (plannedWrites n which text)) ≡ ones (n .«patch_mask»)
+
+-- a property of each element
+abbrev pub Each : {A : Type 0} → (A → Type 0) → List A → Type 0
+Each P [] = Unit {0}
+Each P (x ∷ xs) = P x × Each P xs
+
+abbrev pub InField : LuminaireField → Store → Type 0
+InField f s = (f .offset ≤ s .offset) × (s .offset < fieldEnd f)
+
+-- each within its own field
+pub record InPlace (w : Write) : Type 0 where
+  pub of-table : getElem? luminaireFields (w .index) ≡ some (w .field)
+  pub fits : length (w .bytes) ≤ w .field .len
+  pub inside : Each (InField (w .field)) (writeStores w)
+
+-- by rising offset, each field behind the end of the one before
+abbrev pub Rising : ℕ → List Write → Type 0
+Rising end [] = Unit {0}
+Rising end (w ∷ ws) = (end ≤ w .field .offset) × Rising (fieldEnd (w .field)) ws
+
+-- Planned writes come by rising offset, without an overlap, and the stores of each stand in its own field.
+pub record InOrder (ws : List Write) : Type 0 where
+  pub in-place : Each InPlace ws
+  pub rising : Rising 0 ws
+
+abbrev pub EveryPlanInOrder : Type 0
+EveryPlanInOrder = (n : LuminaireNumbers) (which : OptionUsize) (text : List ℕ) → InOrder (plannedWrites n which text)
+
+-- A text of two or more bytes is emptied first and gets its first byte last; any other write is stored from its first byte on.
+pub record Staged (place : ℕ) (f : LuminaireField) : Type 0 where
+  pub text : (x y : ℕ) (ys : List ℕ) → isTextKind (f .kind) ≡ true →
+      writeStores (written place f (x ∷ y ∷ ys))
+      ≡ record { offset = f .offset; value = 0 } ∷ singleBytes (f .offset + 1) (y ∷ ys) ++ record { offset = f .offset; value = x } ∷ []
+  pub other : (bytes : List ℕ) → isStaged (f .kind) (length bytes) ≡ false → writeStores (written place f bytes) ≡ singleBytes (f .offset) bytes
+
+abbrev pub EveryWriteStaged : Type 0
+EveryWriteStaged = (place : ℕ) (f : LuminaireField) → Staged place f

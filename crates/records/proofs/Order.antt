@@ -1,0 +1,121 @@
+-- The theorems on planned writes: their order, their places, and that no store of an accepted plan is past the bank's end.
+-- Assumes nothing.
+use mathlib.Core.Path.{_≡_, refl, sym, ap, _∙_, subst}
+use mathlib.Core.Bool.{Bool, true, false, not, cond, _&&_}
+use mathlib.Core.List.{List, [], _∷_, _++_, append-nil}
+use mathlib.Core.Option.{Option, none, some}
+use Prim.Native.Nat.{ℕ, zero, suc, _+_, _-_, _≤_, _<_, suc-le-suc}
+use native.Mathlib.Nat.{le-of-suc-le-suc, not-suc-le-zero}
+use native.Mathlib.Omega.{arith}
+use borrow.Author.Tests.{leb-true, le-leb, not-false}
+use lib.Dec.{leb}
+use lib.ListN.{length, take, drop, getD, getElem?, length-take, length-drop}
+use Rattle.bus.specs.declared.OptionU8.{OptionU8}
+use Rattle.bus.proofs.Tests.{by-test}
+use Rattle.bus.proofs.Lists.{no-element}
+use Rattle.bank.specs.declared.OptionUsize.{OptionUsize}
+use Rattle.bank.specs.declared.luminaire_write.FieldKind.{FieldKind}
+use Rattle.bank.specs.declared.luminaire_write.FieldKind.the-variants.{LayoutId, Number, Text}
+use Rattle.bank.specs.declared.luminaire_write.LuminaireField.{LuminaireField}
+use Rattle.bank.specs.declared.luminaire_write.Bank1Layout.{Bank1Layout}
+use Rattle.bank.specs.Refusal.{Check, firstOf}
+use Rattle.bank.specs.Fields.{luminaireFields, fieldEnd, isTextKind}
+use Rattle.bank.specs.Writable.{writeChecks}
+use Rattle.bank.proofs.Checks.{passed}
+use Rattle.records.specs.declared.luminaire_write.LuminaireNumbers.{LuminaireNumbers}
+use Rattle.records.specs.declared.luminaire_write.Plan.{Plan}
+use Rattle.records.specs.Writes.{Write, Store, gather, flat, bytesFor, written, writesAt, plannedWrites, isStaged, singleBytes, stagesOf, writeStores, storesAt, planStores, Each, InField, InPlace, Rising, InOrder, EveryPlanInOrder, Staged, EveryWriteStaged}
+use Rattle.records.specs.Plan.{fieldChecks, planChecks, storesOf, EveryStoreInBank}
+use Rattle.records.proofs.Gathering.{flat-gather}
+use Rattle.records.proofs.Table.{second-true, table-entry, table-length, table-rises, Sorted, none-field}
+use Rattle.records.proofs.Stages.{bytes-fit}
+
+-- ---- each element of lists in two parts, of what elements give, and of what fields give
+
+module _ {A : Type 0} (P : A → Type 0) where
+  each-append : (xs ys : List A) → Each P xs → Each P ys → Each P (xs ++ ys)
+  each-append [] ys a b = b
+  each-append (x ∷ xs) ys a b = (a .0, each-append xs ys (a .1) b)
+
+  each-gather : (g : ℕ → LuminaireField → List A) (d : LuminaireField) (fs : List LuminaireField) → ((i : ℕ) → i < length fs → Each P (g i (getD fs i d))) → Each P (gather g fs)
+  each-gather g d [] h = tt
+  each-gather g d (f ∷ fs) h = each-append (g 0 f) (gather (λ i. g (suc i)) fs) (h 0 (omega arith)) (each-gather (λ i. g (suc i)) d fs (λ i l. h (suc i) (suc-le-suc l)))
+
+each-map : {A : Type 0} (P Q : A → Type 0) → ((x : A) → P x → Q x) → (xs : List A) → Each P xs → Each Q xs
+each-map P Q f [] a = tt
+each-map P Q f (x ∷ xs) a = (f x (a .0), each-map P Q f xs (a .1))
+
+-- ---- the stores of a write
+
+module _ (place : ℕ) (f : LuminaireField) where
+  staged-text : (x y : ℕ) (ys : List ℕ) → isTextKind (f .kind) ≡ true → isStaged (f .kind) (length (x ∷ y ∷ ys)) ≡ true
+  staged-text x y ys t = rw t (le-leb 2 (length (x ∷ y ∷ ys)) (omega arith))
+
+  pub staged : Staged place f
+  staged =
+      record {
+        text = λ x y ys t. rw (staged-text x y ys t);
+        other = λ bytes t. rw t (append-nil (singleBytes (f .offset) bytes));
+      }
+
+  single-in : (o : ℕ) (bytes : List ℕ) → f .offset ≤ o → o + length bytes ≤ fieldEnd f → Each (InField f) (singleBytes o bytes)
+  single-in o [] a b = tt
+  single-in o (x ∷ bytes) a b = ((a, omega arith), single-in (suc o) bytes (omega arith) (omega arith))
+
+  -- they stand in its field
+  inside : (bytes : List ℕ) → length bytes ≤ f .len → Each (InField f) (writeStores (written place f bytes))
+  inside bytes h =
+      by-test (isStaged (f .kind) (length bytes))
+      (λ t.
+      let two : 2 ≤ length bytes = leb-true 2 (length bytes) (second-true (isTextKind (f .kind)) (leb 2 (length bytes)) t) in
+      rw t
+      (each-append (InField f) (singleBytes (f .offset) (0 ∷ [])) (singleBytes (f .offset + 1) (drop 1 bytes) ++ (singleBytes (f .offset) (take 1 bytes) ++ [])) (single-in (f .offset) (0 ∷ []) (omega arith) (omega arith))
+      (each-append (InField f) (singleBytes (f .offset + 1) (drop 1 bytes)) (singleBytes (f .offset) (take 1 bytes) ++ []) (single-in (f .offset + 1) (drop 1 bytes) (omega arith) (omega (arith, length-drop 1 bytes)))
+      (each-append (InField f) (singleBytes (f .offset) (take 1 bytes)) [] (single-in (f .offset) (take 1 bytes) (omega arith) (omega (arith, length-take 1 bytes))) tt))))
+      (λ t. rw t (each-append (InField f) (singleBytes (f .offset) bytes) [] (single-in (f .offset) bytes (omega arith) (omega arith)) tt))
+
+pub every-write-staged : EveryWriteStaged
+every-write-staged place f = staged place f
+
+-- ---- the order of the writes
+
+rising-from : (y z : ℕ) (ws : List Write) → y ≤ z → Rising z ws → Rising y ws
+rising-from y z [] h a = tt
+rising-from y z (w ∷ ws) h a = (omega (arith, a .0), a .1)
+
+-- at most one write, to the field itself
+abbrev Own : LuminaireField → List Write → Type 0
+Own f [] = Unit {0}
+Own f (w ∷ []) = w .field ≡ f
+Own f (w ∷ v ∷ ws) = ⊥
+
+rising-own : (z : ℕ) (f : LuminaireField) (ws rest : List Write) → z ≤ f .offset → Own f ws → Rising (fieldEnd f) rest → Rising z (ws ++ rest)
+rising-own z f [] rest h o r = rising-from z (fieldEnd f) rest (omega arith) r
+rising-own z f (w ∷ []) rest h o r = rw o (h, r)
+rising-own z f (w ∷ v ∷ ws) rest h o r = absurd o
+
+rising-gather : (g : ℕ → LuminaireField → List Write) (z : ℕ) (fs : List LuminaireField) → Sorted z fs → ((i : ℕ) (f : LuminaireField) → Own f (g i f)) → Rising z (gather g fs)
+rising-gather g z [] s o = tt
+rising-gather g z (f ∷ fs) s o = rising-own z f (g 0 f) (gather (λ i. g (suc i)) fs) (s .0) (o 0 f) (rising-gather (λ i. g (suc i)) (fieldEnd f) fs (s .1) (λ i. o (suc i)))
+
+module _ (n : LuminaireNumbers) (which : OptionUsize) (text : List ℕ) where
+  own : (i : ℕ) (f : LuminaireField) (o : Option (List ℕ)) → bytesFor (f .kind) n which text i f ≡ o → Own f (writesAt n which text i f)
+  own i f none e = rw e tt
+  own i f (some bytes) e = rw e refl
+
+  placed : (i : ℕ) (f : LuminaireField) → getElem? luminaireFields i ≡ some f → (o : Option (List ℕ)) → bytesFor (f .kind) n which text i f ≡ o → Each InPlace (writesAt n which text i f)
+  placed i f t none e = rw e tt
+  placed i f t (some bytes) e =
+      let fits = bytes-fit (f .kind) n which text i f e in
+      rw e (record { of-table = t; fits = fits; inside = inside i f bytes fits }, tt)
+
+  pub plan-in-order : InOrder (plannedWrites n which text)
+  unfolding plannedWrites
+  plan-in-order =
+      record {
+        in-place = each-gather InPlace (writesAt n which text) none-field luminaireFields (λ i h. let f = getD luminaireFields i none-field in placed i f (table-entry i none-field (rw table-length at h)) (bytesFor (f .kind) n which text i f) refl);
+        rising = rising-gather (writesAt n which text) 0 luminaireFields table-rises (λ i f. own i f (bytesFor (f .kind) n which text i f) refl);
+      }
+
+pub every-plan-in-order : EveryPlanInOrder
+every-plan-in-order n which text = plan-in-order n which text
