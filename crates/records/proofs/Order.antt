@@ -21,14 +21,14 @@ use Rattle.bank.specs.declared.luminaire_write.Bank1Layout.{Bank1Layout}
 use Rattle.bank.specs.Refusal.{Check, firstOf}
 use Rattle.bank.specs.Fields.{luminaireFields, fieldEnd, isTextKind}
 use Rattle.bank.specs.Writable.{writeChecks}
-use Rattle.bank.proofs.Checks.{passed}
+use Rattle.bank.proofs.Checks.{passed, passed-first}
 use Rattle.records.specs.declared.luminaire_write.LuminaireNumbers.{LuminaireNumbers}
 use Rattle.records.specs.declared.luminaire_write.Plan.{Plan}
-use Rattle.records.specs.Writes.{Write, Store, gather, flat, bytesFor, written, writesAt, plannedWrites, isStaged, singleBytes, stagesOf, writeStores, storesAt, planStores, Each, InField, InPlace, Rising, InOrder, EveryPlanInOrder, Staged, EveryWriteStaged}
-use Rattle.records.specs.Plan.{fieldChecks, planChecks, storesOf, EveryStoreInBank}
+use Rattle.records.specs.Writes.{Write, Store, wantedNumber, isFor, gather, flat, bytesFor, written, writesAt, plannedWrites, isStaged, singleBytes, stagesOf, writeStores, storesAt, planStores, Each, InField, InPlace, Rising, InOrder, EveryPlanInOrder, Staged, EveryWriteStaged}
+use Rattle.records.specs.Plan.{numberChecks, textChecks, ifWanted, fieldChecks, unknownBits, unknownField, planChecks, storesOf, EveryStoreInBank}
 use Rattle.records.proofs.Gathering.{flat-gather}
 use Rattle.records.proofs.Table.{second-true, table-entry, table-length, table-rises, Sorted, none-field}
-use Rattle.records.proofs.Stages.{bytes-fit}
+use Rattle.records.proofs.Stages.{bytes-fit, stores-of-write}
 
 -- ---- each element of lists in two parts, of what elements give, and of what fields give
 
@@ -119,3 +119,60 @@ module _ (n : LuminaireNumbers) (which : OptionUsize) (text : List ℕ) where
 
 pub every-plan-in-order : EveryPlanInOrder
 every-plan-in-order n which text = plan-in-order n which text
+
+-- ---- an accepted plan
+
+none-first : (xs ys : List Check) → firstOf (xs ++ ys) ≡ none → firstOf xs ≡ none
+unfolding firstOf
+none-first [] ys e = refl
+none-first (x ∷ xs) ys e =
+    by-test (x .applies)
+    (λ t. no-element (sym (rw t at e)))
+    (λ t. rw t (none-first xs ys (rw t at e)))
+
+none-second : (xs ys : List Check) → firstOf (xs ++ ys) ≡ none → firstOf ys ≡ none
+none-second xs ys e = sym (passed-first xs ys (none-first xs ys e)) ∙ e
+
+none-gather : (g : ℕ → LuminaireField → List Check) (d : LuminaireField) (fs : List LuminaireField) → firstOf (gather g fs) ≡ none → (i : ℕ) → i < length fs → firstOf (g i (getD fs i d)) ≡ none
+none-gather g d [] e i h = absurd (not-suc-le-zero h)
+none-gather g d (f ∷ fs) e zero h = none-first (g 0 f) (gather (λ i. g (suc i)) fs) e
+none-gather g d (f ∷ fs) e (suc i) h = none-gather (λ i. g (suc i)) d fs (none-second (g 0 f) (gather (λ i. g (suc i)) fs) e) i (le-of-suc-le-suc h)
+
+-- a field that may be written ends by the last offset
+ends-within : (l : Bank1Layout) (f : LuminaireField) (last : ℕ) (later : List Check) → l .«last_offset» ≡ OptionU8.Some last → firstOf (writeChecks l f ++ later) ≡ none → fieldEnd f - 1 ≤ last
+ends-within l f last later e s =
+    let p = passed (writeChecks l f) (none-first (writeChecks l f) later s) in
+    leb-true (fieldEnd f - 1) last (not-false (leb (fieldEnd f - 1) last) (rw e at (p .1 .1 .1 .1 .1 .0)))
+
+module _ (p : Plan) (text : List ℕ) (last : ℕ) (known : p .layout .«last_offset» ≡ OptionU8.Some last) where
+  -- a field that has a write passed its checks
+  write-ends : (kind : FieldKind) (i : ℕ) (f : LuminaireField) {bytes : List ℕ} → f .kind ≡ kind → firstOf (fieldChecks p text i f) ≡ none → bytesFor kind (p .numbers) (p .«text_field») text i f ≡ some bytes → fieldEnd f - 1 ≤ last
+  write-ends LayoutId i f k s e = no-element e
+  write-ends (Number patch r) i f k s e = go (wantedNumber (p .numbers) (f .kind)) refl
+    where
+      go : (o : Option ℕ) → wantedNumber (p .numbers) (f .kind) ≡ o → fieldEnd f - 1 ≤ last
+      go none w = no-element (rw w at e)
+      go (some v) w = ends-within (p .layout) f last _ known (none-first (numberChecks (p .layout) f v) (cond (isFor (p .«text_field») i) (textChecks (p .layout) f text) []) (rw w at s))
+  write-ends (Text t) i f k s e =
+      by-test (isFor (p .«text_field») i)
+      (λ w. ends-within (p .layout) f last _ known (rw w at (none-second (ifWanted (wantedNumber (p .numbers) (f .kind)) (numberChecks (p .layout) f)) (cond (isFor (p .«text_field») i) (textChecks (p .layout) f text) []) s)))
+      (λ w. no-element (rw w at e))
+
+  field-in-bank : (i : ℕ) (f : LuminaireField) → firstOf (fieldChecks p text i f) ≡ none → (o : Option (List ℕ)) → bytesFor (f .kind) (p .numbers) (p .«text_field») text i f ≡ o → Each (λ (s : Store). s .offset ≤ last) (storesAt (p .numbers) (p .«text_field») text i f)
+  field-in-bank i f s none e = rw e tt
+  field-in-bank i f s (some bytes) e =
+      let end = write-ends (f .kind) i f refl s e in
+      subst (Each (λ (s : Store). s .offset ≤ last)) (sym (stores-of-write (p .numbers) (p .«text_field») text i f e))
+      (each-map (InField f) (λ (s : Store). s .offset ≤ last) (λ s h. omega (arith, h .0, h .1, end)) (writeStores (written i f bytes)) (inside i f bytes (bytes-fit (f .kind) (p .numbers) (p .«text_field») text i f e)))
+
+  stores-in-bank : firstOf (planChecks p text) ≡ none → Each (λ (s : Store). s .offset ≤ last) (storesOf p text)
+  unfolding planChecks planStores plannedWrites
+  stores-in-bank s =
+      subst (Each (λ (s : Store). s .offset ≤ last)) (sym (flat-gather writeStores (writesAt (p .numbers) (p .«text_field») text) luminaireFields))
+      (each-gather (λ (s : Store). s .offset ≤ last) (storesAt (p .numbers) (p .«text_field») text) none-field luminaireFields
+      (λ i h.
+      let f = getD luminaireFields i none-field in
+      field-in-bank i f (none-gather (fieldChecks p text) none-field luminaireFields (none-second (unknownBits p ∷ unknownField p ∷ []) (gather (fieldChecks p text) luminaireFields) s) i h) (bytesFor (f .kind) (p .numbers) (p .«text_field») text i f) refl))
+
+pub every-store-in-bank : EveryStoreInBank
+every-store-in-bank p text last s known = stores-in-bank p text last known s

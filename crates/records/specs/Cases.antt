@@ -6,13 +6,14 @@ use mathlib.Core.List.{List, [], _∷_, map}
 use mathlib.Core.Option.{Option, none, some}
 use Prim.Native.Nat.{ℕ, zero, suc}
 use lib.IntN.{ℤ, pos, negℤ}
-use lib.ListN.{getElem?}
+use lib.ListN.{length, getElem?}
 use Rattle.bus.specs.declared.OptionU8.{OptionU8}
 use Rattle.bus.specs.declared.ValueWidth.the-variants.{I8}
 use Rattle.bus.specs.declared.OptionU64.{OptionU64}
 use Rattle.bus.specs.declared.part251.LuminaireFormat.the-variants.{V3, V4}
 use Rattle.bank.specs.declared.OptionBool.{OptionBool}
 use Rattle.bank.specs.declared.OptionU16.{OptionU16}
+use Rattle.bank.specs.declared.OptionUsize.{OptionUsize}
 use Rattle.bank.specs.declared.part251.CctReading.{CctReading}
 use Rattle.bank.specs.declared.part251.CctReading.the-variants.{Kelvin, Part209Implemented}
 use Rattle.bank.specs.declared.part251.LightDistributionType.{LightDistributionType}
@@ -22,7 +23,7 @@ use Rattle.bank.specs.declared.luminaire_write.LuminaireField.{LuminaireField}
 use Rattle.bank.specs.declared.luminaire_write.Bank1Layout.{Bank1Layout}
 use Rattle.bank.specs.declared.luminaire_write.ResultLuminaireFormat.{ResultLuminaireFormat}
 use Rattle.bank.specs.declared.luminaire_write.ResultLuminaireFormat.the-variants.{Ok, Err}
-use Rattle.bank.specs.Refusal.{numberOf}
+use Rattle.bank.specs.Refusal.{numberOf, checked}
 use Rattle.bank.specs.Readings.{cctOf, typeOf}
 use Rattle.bank.specs.Fields.{luminaireFields, fromHeader}
 use Rattle.bank.specs.Writable.{checkWritable}
@@ -30,10 +31,14 @@ use Rattle.bank.specs.Chunk.{chunkLen}
 use Rattle.bank.specs.ReadOut.{fresh, advanced, isDone, wantedLen}
 use Rattle.records.specs.declared.attributes.BankReading.{BankReading}
 use Rattle.records.specs.Places.{readingAt, scaleAt}
+use Rattle.records.specs.declared.luminaire_write.LuminaireNumbers.{LuminaireNumbers}
+use Rattle.records.specs.declared.luminaire_write.Plan.{Plan}
 use Rattle.records.specs.Text.{escaped}
+use Rattle.records.specs.Writes.{Store}
+use Rattle.records.specs.Plan.{planChecks, storesOf}
 
 -- what a case speaks of: a number, the lengths of a read-out's chunks, a reading, a scale, a colour temperature, a
--- distribution type, the bytes of a text
+-- distribution type, the bytes of a text, the stores of a plan
 pub data Answer : Type 0 where
   number : ℕ → Answer
   lengths : List ℕ → Answer
@@ -42,6 +47,7 @@ pub data Answer : Type 0 where
   text : List ℕ → Answer
   temperature : CctReading → Answer
   type : LightDistributionType → Answer
+  stores : List Store → Answer
 
 infix 70 _is_
 -- a case: what the definitions give, and what 01 says that it is
@@ -93,6 +99,43 @@ fieldYear l = writing (getElem? luminaireFields 1) l
 abbrev nothingRead : Bank1Layout
 nothingRead = record { implemented = OptionBool.None; «content_format_id» = OptionU16.None; «last_offset» = OptionU8.None }
 
+-- "Format 5, last offset C9 hex, empty mask": the plan of a text
+abbrev noNumbers : LuminaireNumbers
+noNumbers =
+    record {
+      «patch_mask» = 0;
+      year = 0;
+      week = 0;
+      «nominal_input_power_w» = 0;
+      «power_at_minimum_w» = 0;
+      «nominal_min_ac_voltage_v» = 0;
+      «nominal_max_ac_voltage_v» = 0;
+      «nominal_light_output_lm» = 0;
+      cri = 0;
+      «cct_kelvin» = 0;
+      «light_distribution_type» = 0;
+      «lamp_current_ma» = 0;
+    }
+
+abbrev textPlan : ℕ → Plan
+textPlan index =
+    record {
+      layout = record { implemented = OptionBool.Some true; «content_format_id» = OptionU16.Some 5; «last_offset» = OptionU8.Some 0xC9 };
+      numbers = noNumbers;
+      «text_field» = OptionUsize.Some index;
+    }
+
+-- its stores, or the number of its refusal
+abbrev planned : ℕ → List ℕ → Answer
+planned index letters = checked (planChecks (textPlan index) letters) (λ r. number (numberOf r)) (stores (storesOf (textPlan index) letters))
+
+-- and their count
+abbrev counted : ℕ → List ℕ → Answer
+counted index letters = checked (planChecks (textPlan index) letters) (λ r. number (numberOf r)) (number (length (storesOf (textPlan index) letters)))
+
+abbrev at : ℕ → ℕ → Store
+at offset value = record { offset = offset; value = value }
+
 unfoldable pub cases : List Case
 cases =
     -- "`chunk_len`(202, 5, 6, 4) = 6; (202, 5, 5, 4) = 4; (202, 6, 10, 8) = 8; (202, 5, 6, 0) = 6; (9, 0, 5, 0) = 0"
@@ -122,6 +165,10 @@ cases =
     -- "Type 6: reserved in format 3, shown in 4"
     ∷ type (typeOf V3 6) is type (Reserved 6)
     ∷ type (typeOf V4 6) is type («Type» 6)
+    -- "The listing above; an empty colour, one store 24 00; free use ABCDEFGH, 9 stores"
+    ∷ planned 12 (0x41 ∷ 0x42 ∷ []) is stores (at 0x3C 0x00 ∷ at 0x3D 0x42 ∷ at 0x3E 0x00 ∷ at 0x3C 0x41 ∷ [])
+    ∷ planned 11 [] is stores (at 0x24 0x00 ∷ [])
+    ∷ counted 17 (0x41 ∷ 0x42 ∷ 0x43 ∷ 0x44 ∷ 0x45 ∷ 0x46 ∷ 0x47 ∷ 0x48 ∷ []) is number 9
     -- "Field year: header of the single byte 77 hex, 4; empty header, 2; nothing read, 3"
     ∷ fieldYear (fromHeader (0x77 ∷ [])) is number 4
     ∷ fieldYear (fromHeader []) is number 2
