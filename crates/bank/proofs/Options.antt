@@ -2,8 +2,8 @@
 -- Assumes nothing.
 use mathlib.Core.Path.{_≡_, refl}
 use mathlib.Core.Option.{Option, none, some}
-use Rattle.bus.proofs.Options.{told}
 use Prim.Native.Nat.{ℕ}
+use Rattle.bus.proofs.Options.{told}
 use Rattle.bank.specs.declared.OptionU32.{OptionU32}
 use Rattle.bank.specs.declared.OptionUsize.{OptionUsize}
 use Rattle.bank.specs.declared.refusal.Refusal.{Refusal}

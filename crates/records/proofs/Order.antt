@@ -1,7 +1,7 @@
 -- The theorems on planned writes: their order, their places, and that no store of an accepted plan is past the bank's end.
 -- Assumes nothing.
-use mathlib.Core.Path.{_≡_, refl, sym, ap, _∙_, subst}
-use mathlib.Core.Bool.{Bool, true, false, not, cond, _&&_}
+use mathlib.Core.Path.{_≡_, refl, sym, _∙_, subst}
+use mathlib.Core.Bool.{true, cond}
 use mathlib.Core.List.{List, [], _∷_, _++_, append-nil}
 use mathlib.Core.Option.{Option, none, some}
 use Prim.Native.Nat.{ℕ, zero, suc, _+_, _-_, _≤_, _<_, suc-le-suc}
@@ -24,7 +24,7 @@ use Rattle.bank.specs.Writable.{writeChecks}
 use Rattle.bank.proofs.Checks.{passed, passed-first}
 use Rattle.records.specs.declared.luminaire_write.LuminaireNumbers.{LuminaireNumbers}
 use Rattle.records.specs.declared.luminaire_write.Plan.{Plan}
-use Rattle.records.specs.Writes.{Write, Store, wantedNumber, isFor, gather, flat, bytesFor, written, writesAt, plannedWrites, isStaged, singleBytes, stagesOf, writeStores, storesAt, planStores, Each, InField, InPlace, Rising, InOrder, EveryPlanInOrder, Staged, EveryWriteStaged}
+use Rattle.records.specs.Writes.{Write, Store, wantedNumber, isFor, gather, bytesFor, written, writesAt, plannedWrites, isStaged, singleBytes, writeStores, storesAt, planStores, Each, InField, InPlace, Rising, InOrder, EveryPlanInOrder, Staged, EveryWriteStaged}
 use Rattle.records.specs.Plan.{numberChecks, textChecks, ifWanted, fieldChecks, unknownBits, unknownField, planChecks, storesOf, EveryStoreInBank}
 use Rattle.records.proofs.Gathering.{flat-gather}
 use Rattle.records.proofs.Table.{second-true, table-entry, table-length, table-rises, Sorted, none-field}

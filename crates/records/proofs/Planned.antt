@@ -14,7 +14,7 @@ use Rattle.bank.specs.declared.luminaire_write.LuminaireField.{LuminaireField}
 use Rattle.bank.specs.Fields.{luminaireFields}
 use Rattle.records.specs.declared.luminaire_write.LuminaireNumbers.{LuminaireNumbers}
 use Rattle.records.specs.declared.luminaire_write.WriteCounts.{WriteCounts}
-use Rattle.records.specs.Writes.{Write, bytesFor, written, writesAt, plannedWrites, indices, lengths, allBytes, gather, flat}
+use Rattle.records.specs.Writes.{Write, bytesFor, written, writesAt, plannedWrites, indices, lengths, allBytes, gather}
 use Rattle.records.specs.Steps.{countsWith}
 use Rattle.records.proofs.Laying.{sets-append}
 use Rattle.records.proofs.Gathering.{flat-append, gather-next}

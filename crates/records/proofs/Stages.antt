@@ -1,9 +1,9 @@
 -- Laws of a write's bytes and of its stages.
 -- Assumes nothing.
 use mathlib.Core.Path.{_≡_, refl, sym, ap, _∙_, subst}
-use mathlib.Core.Bool.{Bool, true, false, cond}
+use mathlib.Core.Bool.{Bool, true, false}
 use mathlib.Core.List.{List, [], _∷_, _++_, append-nil}
-use mathlib.Core.Option.{Option, none, some, Option·map}
+use mathlib.Core.Option.{Option, none, some}
 use Prim.Native.Nat.{ℕ, zero, suc, _+_, _≤_, _<_}
 use native.Mathlib.Omega.{arith}
 use lib.Dec.{lit≤}
@@ -18,7 +18,6 @@ use Rattle.bank.specs.declared.luminaire_write.NumberRule.{NumberRule}
 use Rattle.bank.specs.declared.luminaire_write.FieldKind.{FieldKind}
 use Rattle.bank.specs.declared.luminaire_write.FieldKind.the-variants.{LayoutId, Number, Text}
 use Rattle.bank.specs.declared.luminaire_write.LuminaireField.{LuminaireField}
-use Rattle.records.proofs.Laying.{front-laid}
 use Rattle.records.specs.declared.luminaire_write.LuminaireNumbers.{LuminaireNumbers}
 use Rattle.records.specs.declared.luminaire_write.WriteStage.{WriteStage}
 use Rattle.records.specs.declared.luminaire_write.FieldWrite.{FieldWrite}
@@ -26,6 +25,7 @@ use Rattle.records.specs.declared.luminaire_write.OptionFieldWrite.{Opti
 use Rattle.records.specs.declared.luminaire_write.StagePart.the-variants.{Terminator, Whole, Tail, Head}
 use Rattle.records.specs.Steps.{WithinBank}
 use Rattle.records.specs.Writes.{Store, wantedNumber, isFor, numberBytes, terminated, bytesFor, bytesIn, optionFieldWrite, isStaged, stagesOf, partOf, singleBytes, written, writeStores, storesAt}
+use Rattle.records.proofs.Laying.{front-laid}
 
 -- no element behind the last
 module _ {A : Type 0} where

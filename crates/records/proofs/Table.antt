@@ -3,19 +3,18 @@
 use mathlib.Core.Path.{_≡_, refl, sym, subst}
 use mathlib.Core.Bool.{Bool, true, false, _&&_, true≢false}
 use mathlib.Core.List.{List, [], _∷_}
-use mathlib.Core.Option.{Option, none, some}
+use mathlib.Core.Option.{some}
 use Prim.Native.Nat.{ℕ, zero, suc, _≤_, _<_}
-use native.Mathlib.Nat.{le-of-suc-le-suc, not-suc-le-zero}
 use borrow.Author.Tests.{leb-true}
 use lib.Dec.{leb, lit≤}
 use lib.ListN.{length, getD, getElem?, take}
 use lib.Seq.{take-all}
-use Rattle.bus.proofs.Lists.{no-element, entry-in}
 use Rattle.bus.specs.declared.part251.LuminaireFormat.the-variants.{V3}
+use Rattle.bus.proofs.Lists.{no-element, entry-in}
 use Rattle.bank.specs.declared.luminaire_write.FieldKind.the-variants.{LayoutId}
 use Rattle.bank.specs.declared.luminaire_write.LuminaireField.{LuminaireField}
-use Rattle.bank.specs.Fields.{luminaireFields, fieldEnd}
 use Rattle.bank.specs.declared.OptionUsize.{OptionUsize}
+use Rattle.bank.specs.Fields.{luminaireFields, fieldEnd}
 use Rattle.records.specs.declared.luminaire_write.LuminaireNumbers.{LuminaireNumbers}
 use Rattle.records.specs.Writes.{gather, writesAt, plannedWrites, writeStores, storesAt, planStores}
 use Rattle.records.specs.Steps.{WithinBank}

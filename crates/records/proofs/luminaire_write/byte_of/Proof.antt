@@ -1,38 +1,31 @@
-use borrow.Author.Needs.{needs}
-use Rattle.records.proofs.luminaire_write.byte_of.Statement.{statement}
-use Rattle.records.proofs.luminaire_write.byte_of.Tie as tie
-use Rattle.records.proofs.luminaire_write.byte_of.Reads as reads
-use Rattle.records.proofs.luminaire_write.byte_of.Lts as lts
-use mathlib.Core.Path.{_≡_, refl, sym}
+-- `records::luminaire_write::byte_of` meets its contract: a number of 32 bits has no byte with four behind it.
+-- Assumes nothing.
 use Prim.Native.Nat.{_*_, _^_, _<_}
 use native.Mathlib.Nat.{div-eq-of-lt}
 use native.Mathlib.Omega.{arith}
+use borrow.Author.Needs.{needs}
 use lib.Pow.{pow-mono}
+use Rattle.records.proofs.luminaire_write.byte_of.Statement.{statement}
+use Rattle.records.proofs.luminaire_write.byte_of.Tie as tie
 
--- src/luminaire_write.rt:293:9
 returns : tie.Need-returns
 returns c =
     let a = c .before .args in
     let h : a .value < 2 ^ (8 * a .behind) = omega (arith, pow-mono {i = 32} {j = 8 * a .behind} (omega arith)) in
     rw (div-eq-of-lt h)
 
--- src/luminaire_write.rt:295:17
 mul-result : tie.Need-mul-result
 mul-result c = search needs
 
--- src/luminaire_write.rt:295:17
 cast-result : tie.Need-cast-result
 cast-result c = search needs
 
--- src/luminaire_write.rt:295:7
 shr-result : tie.Need-shr-result
 shr-result c = search needs
 
--- src/luminaire_write.rt:295:5
 cast-result-2 : tie.Need-cast-result-2
 cast-result-2 c = search needs
 
--- src/luminaire_write.rt:289:1
 returns-2 : tie.Need-returns-2
 returns-2 c = search needs
 

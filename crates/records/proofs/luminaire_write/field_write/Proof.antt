@@ -1,61 +1,48 @@
-use borrow.Author.Needs.{needs}
-use Rattle.records.proofs.luminaire_write.field_write.Statement.{statement}
-use Rattle.records.proofs.luminaire_write.field_write.Tie as tie
-use Rattle.records.proofs.luminaire_write.field_write.Reads as reads
-use Rattle.records.proofs.luminaire_write.field_write.Lts as lts
-use Rattle.records.proofs.luminaire_write.is_for.Reads as is-for-reads
-use Rattle.records.proofs.luminaire_write.number_write.Reads as number-write-reads
-use Rattle.records.proofs.luminaire_write.text_write.Reads as text-write-reads
-use mathlib.Core.Path.{_≡_, refl, sym, ap, _∙_}
-use borrow.Author.Tests.{not-true, not-false}
-use Rattle.records.specs.declared.luminaire_write.OptionFieldWrite.the-variants.{Some}
+-- `records::luminaire_write::field_write` meets its contract, by the field's kind.
+-- Assumes nothing.
+use mathlib.Core.Path.{sym, ap, _∙_}
 use mathlib.Core.List.{List}
 use mathlib.Core.Option.{Option}
 use Prim.Native.Nat.{ℕ}
+use borrow.Author.Tests.{not-true, not-false}
+use borrow.Author.Needs.{needs}
 use lib.Seq.{sets}
+use Rattle.records.specs.declared.luminaire_write.OptionFieldWrite.the-variants.{Some}
 use Rattle.records.specs.Writes.{bytesIn, optionFieldWrite}
 use Rattle.records.proofs.Stages.{for-number}
+use Rattle.records.proofs.luminaire_write.field_write.Statement.{statement}
+use Rattle.records.proofs.luminaire_write.field_write.Tie as tie
 
--- src/luminaire_write.rt:376:32
 enum-told : tie.Need-enum-told
 enum-told c = search needs
 
--- src/luminaire_write.rt:377:88
 enum-told-2 : tie.Need-enum-told-2
 enum-told-2 c = search needs
 
--- src/luminaire_write.rt:377:52
 number-write-requires : tie.Need-number-write-requires
 number-write-requires c κs = search needs
 
--- src/luminaire_write.rt:379:17
 enum-told-3 : tie.Need-enum-told-3
 enum-told-3 c = search needs
 
--- src/luminaire_write.rt:379:17
 is-for-requires : tie.Need-is-for-requires
 is-for-requires c κs = search needs
 
--- src/luminaire_write.rt:380:17
 returns : tie.Need-returns
 returns c =
     let told = c .before .before .enum-told3 .given .1 in
     let no = sym (c .before .is-for .ensures) ∙ not-true _ (c .if1 .taken) in
     (rw (told, no), rw (told, no))
 
--- src/luminaire_write.rt:382:36
 text-write-requires : tie.Need-text-write-requires
 text-write-requires c κs = search needs
 
--- src/luminaire_write.rt:363:1
 returns-2 : tie.Need-returns-2
 returns-2 c = (rw (c .enum-told .given .1), rw (c .enum-told .given .1))
 
--- src/luminaire_write.rt:363:1
 same-length : tie.Need-same-length
 same-length c = search needs
 
--- src/luminaire_write.rt:363:1
 returns-3 : tie.Need-returns-3
 returns-3 c =
     let w = c .before .before .number-write in
@@ -63,11 +50,9 @@ returns-3 c =
     let number = sym (for-number (a .numbers) (a .text-field) (a .text .now) (a .index) (a .field) (a .field .kind) (c .before .before .before .before .enum-told2 .given .1)) in
     (w .ensures .0 ∙ ap (optionFieldWrite (a .index)) number, w .ensures .1 ∙ ap (λ (o : Option (List ℕ)). sets (a .bytes .now) 0 (bytesIn o)) number)
 
--- src/luminaire_write.rt:363:1
 same-length-2 : tie.Need-same-length-2
 same-length-2 c = search needs
 
--- src/luminaire_write.rt:363:1
 returns-4 : tie.Need-returns-4
 returns-4 c =
     let told = c .before .before .before .before .before .before .enum-told3 .given .1 in

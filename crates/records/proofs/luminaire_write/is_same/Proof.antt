@@ -1,14 +1,15 @@
-use Rattle.records.proofs.luminaire_write.is_same.Statement.{statement}
-use Rattle.records.proofs.luminaire_write.is_same.Tie as tie
-use Rattle.records.proofs.luminaire_write.is_same.Reads as reads
-use Rattle.records.proofs.luminaire_write.is_same.Lts as lts
-use mathlib.Core.Path.{_≡_, refl, sym, ap, _∙_}
-use Prim.Native.Nat.{ℕ, _+_, _-_, _≤_}
+-- `records::luminaire_write::is_same` meets its contract. The invariant: from index i on the bytes are as much the
+-- same as from the first on. The measure is the number of bytes that are left.
+-- Assumes nothing.
+use mathlib.Core.Path.{_≡_, refl, sym, _∙_}
+use Prim.Native.Nat.{_-_, _≤_}
 use native.Mathlib.Omega.{arith}
 use borrow.Author.Tests.{eq-eqb, ne-eqb}
 use lib.ListN.{length, drop}
 use Rattle.records.specs.Writes.{same}
 use Rattle.records.proofs.Held.{same-next, same-not, same-ended}
+use Rattle.records.proofs.luminaire_write.is_same.Statement.{statement}
+use Rattle.records.proofs.luminaire_write.is_same.Tie as tie
 
 abbrev Inv-loop : tie.InvT-loop
 Inv-loop a b i₀ i = (i ≤ length a) × (length a ≡ length b) × (same (drop i a) (drop i b) ≡ same a b)
@@ -16,39 +17,31 @@ Inv-loop a b i₀ i = (i ≤ length a) × (length a ≡ length b) × (same (drop
 abbrev μ-loop : tie.MeasureT-loop
 μ-loop a b i₀ i = length a - i
 
--- src/luminaire_write.rt:279:5
 loop-holds : tie.Need-loop-holds Inv-loop μ-loop
 loop-holds c = (omega arith, c .pre, refl)
 
--- src/luminaire_write.rt:280:12
 shared-slice-read-if1 : tie.Need-shared-slice-read-if1 Inv-loop μ-loop
 shared-slice-read-if1 c = omega arith
 
--- src/luminaire_write.rt:280:20
 shared-slice-read-if1-2 : tie.Need-shared-slice-read-if1-2 Inv-loop μ-loop
 shared-slice-read-if1-2 c = omega arith
 
--- src/luminaire_write.rt:281:13
 returns : tie.Need-returns Inv-loop μ-loop
 returns c =
     let l = c .before .before .before .before in
     sym (same-not _ _ (l .loop .i) (l .loop .inv .1) (omega arith) (ne-eqb _ _ (c .if1 .taken))) ∙ l .loop .inv .2
 
--- src/luminaire_write.rt:283:9
 add-i : tie.Need-add-i Inv-loop μ-loop
 add-i c = omega arith
 
--- src/luminaire_write.rt:279:5
 loop-less : tie.Need-loop-less Inv-loop μ-loop
 loop-less c = omega arith
 
--- src/luminaire_write.rt:279:5
 loop-again : tie.Need-loop-again Inv-loop μ-loop
 loop-again c =
     let l = c .before .before .before .before in
     (omega arith, l .loop .inv .1, sym (same-next _ _ (l .loop .i) (l .loop .inv .1) (omega arith) (eq-eqb _ _ (c .if1 .left))) ∙ l .loop .inv .2)
 
--- src/luminaire_write.rt:274:1
 returns-2 : tie.Need-returns-2 Inv-loop μ-loop
 returns-2 c =
     let l = c .before in

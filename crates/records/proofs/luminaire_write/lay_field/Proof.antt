@@ -1,19 +1,17 @@
-use borrow.Author.Needs.{needs}
-use Rattle.records.proofs.luminaire_write.lay_field.Statement.{statement}
-use Rattle.records.proofs.luminaire_write.lay_field.Tie as tie
-use Rattle.records.proofs.luminaire_write.lay_field.Reads as reads
-use Rattle.records.proofs.luminaire_write.lay_field.Lts as lts
-use Rattle.records.proofs.luminaire_write.field_write.Reads as field-write-reads
-use Rattle.records.proofs.luminaire_write.lay_write.Reads as lay-write-reads
-use mathlib.Core.Path.{_≡_, refl, sym, ap, _∙_}
+-- `records::luminaire_write::lay_field` meets its contract, by what `field_write` and `lay_write` ensure.
+-- Assumes nothing.
+use mathlib.Core.Path.{_≡_, sym, ap, _∙_}
 use mathlib.Core.List.{List}
 use mathlib.Core.Option.{Option}
 use Prim.Native.Nat.{ℕ, _≤_}
 use native.Mathlib.Omega.{arith}
+use borrow.Author.Needs.{needs}
 use lib.ListN.{length, take, replicate}
 use Rattle.records.specs.Writes.{bytesFor, written, writeStores, storesAt}
 use Rattle.records.proofs.Stages.{bytes-fit, ToldWrite, told-write, front-told, told-nothing, stores-of-write, stores-of-none}
 use Rattle.records.proofs.Stores.{Laid, none-laid, laid-same, offsets-kept, values-kept}
+use Rattle.records.proofs.luminaire_write.lay_field.Statement.{statement}
+use Rattle.records.proofs.luminaire_write.lay_field.Tie as tie
 
 abbrev wanted : tie.Start → Option (List ℕ)
 wanted s = let a = s .args in bytesFor (a .field .kind) (a .numbers) (a .text-field) (a .text .now) (a .index) (a .field)
@@ -44,58 +42,46 @@ all-laid c =
     (ap (λ (b : List ℕ). writeStores (written (a .index) (a .field) b)) (laid w) ∙ sym (stores-of-write (a .numbers) (a .text-field) (a .text .now) (a .index) (a .field) (told w .is)))
     (record { count = e .0; offsets = e .1 .0; values = e .1 .1 })
 
--- src/luminaire_write.rt:494:64
 slice-aggregate-field-write : tie.Need-slice-aggregate-field-write
 slice-aggregate-field-write c = search needs
 
--- src/luminaire_write.rt:494:11
 field-write-requires : tie.Need-field-write-requires
 field-write-requires c κs = search needs
 
--- src/luminaire_write.rt:495:32
 enum-known-write : tie.Need-enum-known-write
 enum-known-write c = search needs
 
--- src/luminaire_write.rt:496:23
 cast-len : tie.Need-cast-len
 cast-len c = search needs
 
--- src/luminaire_write.rt:497:37
 array-share-prefix-bytes : tie.Need-array-share-prefix-bytes
 array-share-prefix-bytes c = search needs
 
--- src/luminaire_write.rt:497:37
 slice-aggregate-lay-write : tie.Need-slice-aggregate-lay-write
 slice-aggregate-lay-write c =
     let w = c .before .before .before in
     told w .counts ∙ sym (ap length (laid w))
 
--- src/luminaire_write.rt:497:13
 lay-write-requires : tie.Need-lay-write-requires
 lay-write-requires c κs =
     let w = c .before .before .before .before .before in
     let s = w .before .before .before .before .before .before .before .before in
     (s .pre .0, (omega (arith, ap length (laid w), short w), s .pre .1))
 
--- src/luminaire_write.rt:499:35
 enum-told : tie.Need-enum-told
 enum-told c = search needs
 
--- src/luminaire_write.rt:478:1
 same-length : tie.Need-same-length
 same-length c = offsets-kept (all-laid c)
 
--- src/luminaire_write.rt:478:1
 same-length-2 : tie.Need-same-length-2
 same-length-2 c = values-kept (all-laid c)
 
--- src/luminaire_write.rt:478:1
 returns : tie.Need-returns
 returns c =
     let l = all-laid c in
     (l .count, (l .offsets, l .values))
 
--- src/luminaire_write.rt:478:1
 returns-2 : tie.Need-returns-2
 returns-2 c =
     let s = c .before .before .before .before .before .before .before .before in

@@ -1,20 +1,17 @@
-use borrow.Author.Needs.{needs}
-use Rattle.records.proofs.luminaire_write.lay_planned.Statement.{statement}
-use Rattle.records.proofs.luminaire_write.lay_planned.Tie as tie
-use Rattle.records.proofs.luminaire_write.lay_planned.Reads as reads
-use Rattle.records.proofs.luminaire_write.lay_planned.Lts as lts
-use Rattle.records.proofs.luminaire_write.field_write.Reads as field-write-reads
-use Rattle.records.proofs.output.put.Reads as put-reads
-use Rattle.records.proofs.output.put_all.Reads as put-all-reads
-use mathlib.Core.Path.{_≡_, refl, sym, ap, _∙_}
+-- `records::luminaire_write::lay_planned` meets its contract, by what `field_write` ensures: one write more, or none.
+-- Assumes nothing.
+use mathlib.Core.Path.{_≡_, sym, ap, _∙_}
 use mathlib.Core.List.{List}
 use mathlib.Core.Option.{Option}
 use Prim.Native.Nat.{ℕ, _≤_}
 use native.Mathlib.Omega.{arith}
+use borrow.Author.Needs.{needs}
 use lib.ListN.{length, take, replicate}
 use Rattle.records.specs.Writes.{bytesFor}
 use Rattle.records.proofs.Stages.{bytes-fit, ToldWrite, told-write, front-told, told-nothing}
 use Rattle.records.proofs.Planned.{one-planned, none-further}
+use Rattle.records.proofs.luminaire_write.lay_planned.Statement.{statement}
+use Rattle.records.proofs.luminaire_write.lay_planned.Tie as tie
 
 abbrev wanted : tie.Start → Option (List ℕ)
 wanted s = let a = s .args in bytesFor (a .field .kind) (a .numbers) (a .text-field) (a .text .now) (a .index) (a .field)
@@ -36,85 +33,67 @@ short c =
 laid : (c : tie.After-write) → take (c .write .given .0 .0 .len) (c .before .before .before .field-write .last .1 .1 .1 .1 .1 .0) ≡ told c .bytes
 laid c = front-told (told c) (replicate 256 0) (c .before .before .before .field-write .ensures .1) (short c)
 
--- src/luminaire_write.rt:416:64
 slice-aggregate-field-write : tie.Need-slice-aggregate-field-write
 slice-aggregate-field-write c = search needs
 
--- src/luminaire_write.rt:416:11
 field-write-requires : tie.Need-field-write-requires
 field-write-requires c κs = search needs
 
--- src/luminaire_write.rt:417:32
 enum-known-write : tie.Need-enum-known-write
 enum-known-write c = search needs
 
--- src/luminaire_write.rt:418:23
 cast-len : tie.Need-cast-len
 cast-len c = search needs
 
--- src/luminaire_write.rt:419:40
 cast-put : tie.Need-cast-put
 cast-put c = search needs
 
--- src/luminaire_write.rt:419:13
 put-requires : tie.Need-put-requires
 put-requires c κs = search needs
 
--- src/luminaire_write.rt:420:13
 put-requires-2 : tie.Need-put-requires-2
 put-requires-2 c κs = search needs
 
--- src/luminaire_write.rt:421:42
 array-share-prefix-own : tie.Need-array-share-prefix-own
 array-share-prefix-own c = search needs
 
--- src/luminaire_write.rt:421:42
 slice-aggregate-put-all : tie.Need-slice-aggregate-put-all
 slice-aggregate-put-all c =
     let w = c .before .before .before .before .before .before .before .before .before .before .before .before in
     told w .counts ∙ sym (ap length (laid w))
 
--- src/luminaire_write.rt:421:13
 put-all-requires : tie.Need-put-all-requires
 put-all-requires c κs = search needs
 
--- src/luminaire_write.rt:423:25
 add-t27 : tie.Need-add-t27
 add-t27 c =
     let s = c .before .before .before .before .before .before .before .before .before .before .before .before .before .before .before .before .before .before .before .before .before .before .before .before .before in
     omega (arith, s .pre .1 .1 .0)
 
--- src/luminaire_write.rt:424:24
 add-t28 : tie.Need-add-t28
 add-t28 c =
     let w = c .before .before .before .before .before .before .before .before .before .before .before .before .before .before .before .before .before in
     let s = w .before .before .before .before .before .before .before .before .before in
     omega (arith, s .pre .1 .1 .1, told w .counts, short w)
 
--- src/luminaire_write.rt:427:35
 enum-told : tie.Need-enum-told
 enum-told c = search needs
 
--- src/luminaire_write.rt:398:1
 same-length : tie.Need-same-length
 same-length c = search needs
 
--- src/luminaire_write.rt:398:1
 same-length-2 : tie.Need-same-length-2
 same-length-2 c = search needs
 
--- src/luminaire_write.rt:398:1
 same-length-3 : tie.Need-same-length-3
 same-length-3 c = search needs
 
--- src/luminaire_write.rt:398:1
 returns : tie.Need-returns
 returns c =
     let w = c .before .before .before .before .before .before .before .before .before .before .before .before .before .before .before .before .before in
     let a = w .before .before .before .before .before .before .before .before .before .args in
     one-planned (a .numbers) (a .text-field) (a .text .now) (a .index) (a .field) (a .before) (a .fields .now) (a .lens .now) (a .bytes .now) (told w .is) (told w .counts) (laid w) (c .before .before .before .before .before .before .before .before .before .before .before .before .before .put .ensures) (c .before .before .before .before .before .before .before .before .before .put2 .ensures) (c .before .before .before .before .put-all .ensures)
 
--- src/luminaire_write.rt:398:1
 returns-2 : tie.Need-returns-2
 returns-2 c =
     let s = c .before .before .before .before .before .before .before .before .before in

@@ -1,18 +1,18 @@
-use Rattle.records.proofs.luminaire_write.lay_stage.Statement.{statement}
-use Rattle.records.proofs.luminaire_write.lay_stage.Tie as tie
-use Rattle.records.proofs.luminaire_write.lay_stage.Reads as reads
-use Rattle.records.proofs.luminaire_write.lay_stage.Lts as lts
-use Rattle.records.proofs.output.put.Reads as put-reads
+-- `records::luminaire_write::lay_stage` meets its contract. The invariant: the stores of the first i bytes are laid.
+-- The measure is the number of bytes that are left.
+-- Assumes nothing.
 use mathlib.Core.Path.{_≡_, refl, sym, ap, _∙_}
 use mathlib.Core.List.{List}
-use Prim.Native.Nat.{ℕ, _+_, _-_, _≤_, _<_}
+use Prim.Native.Nat.{ℕ, _+_, _-_, _≤_}
 use native.Mathlib.Omega.{arith}
 use borrow.Author.Needs.{needs}
 use lib.ListN.{length, getD, set, take}
 use lib.Seq.{sets, take-all, length-sets}
-use Rattle.records.specs.Writes.{singleBytes, offsetsOf, valuesOf}
+use Rattle.records.specs.Writes.{singleBytes, offsetsOf}
 use Rattle.records.proofs.Laying.{sets-next}
 use Rattle.records.proofs.Stores.{offsets-length, offsets-at, values-are}
+use Rattle.records.proofs.luminaire_write.lay_stage.Statement.{statement}
+use Rattle.records.proofs.luminaire_write.lay_stage.Tie as tie
 
 abbrev Inv-loop : tie.InvT-loop
 Inv-loop offset bytes offsets₀ values₀ count i₀ offsets values i = (i ≤ length bytes) × (offset + length bytes ≤ 256) × (count ≤ 65536) × (offsets ≡ sets offsets₀ count (take i (offsetsOf (singleBytes offset bytes)))) × (values ≡ sets values₀ count (take i bytes))
@@ -20,47 +20,36 @@ Inv-loop offset bytes offsets₀ values₀ count i₀ offsets values i = (i ≤ 
 abbrev μ-loop : tie.MeasureT-loop
 μ-loop offset bytes offsets₀ values₀ count i₀ offsets values i = length bytes - i
 
--- src/luminaire_write.rt:406:5
 loop-holds : tie.Need-loop-holds Inv-loop μ-loop
 loop-holds c = (omega arith, c .before .before .before .pre .0, c .before .before .before .pre .1, refl, refl)
 
--- src/luminaire_write.rt:407:22
 add-put : tie.Need-add-put Inv-loop μ-loop
 add-put c = omega arith
 
--- src/luminaire_write.rt:407:42
 cast-put : tie.Need-cast-put Inv-loop μ-loop
 cast-put c = omega arith
 
--- src/luminaire_write.rt:407:33
 add-put-2 : tie.Need-add-put-2 Inv-loop μ-loop
 add-put-2 c = omega arith
 
--- src/luminaire_write.rt:407:9
 put-requires : tie.Need-put-requires Inv-loop μ-loop
 put-requires c κs = search needs
 
--- src/luminaire_write.rt:408:21
 add-put-3 : tie.Need-add-put-3 Inv-loop μ-loop
 add-put-3 c = omega arith
 
--- src/luminaire_write.rt:408:32
 shared-slice-read-put : tie.Need-shared-slice-read-put Inv-loop μ-loop
 shared-slice-read-put c = omega arith
 
--- src/luminaire_write.rt:408:9
 put-requires-2 : tie.Need-put-requires-2 Inv-loop μ-loop
 put-requires-2 c κs = search needs
 
--- src/luminaire_write.rt:409:9
 add-i : tie.Need-add-i Inv-loop μ-loop
 add-i c = omega arith
 
--- src/luminaire_write.rt:406:5
 loop-less : tie.Need-loop-less Inv-loop μ-loop
 loop-less c = omega arith
 
--- src/luminaire_write.rt:406:5
 loop-again : tie.Need-loop-again Inv-loop μ-loop
 loop-again c =
     let l = c .before .before .before .before .before .before .before .before .before .before in
@@ -79,25 +68,21 @@ loop-again c =
           ∙ sets-next (a .values .now) (a .count) (l .loop .i) (a .bytes .now) 0 (omega arith),
     )
 
--- src/luminaire_write.rt:411:5
 add-result : tie.Need-add-result Inv-loop μ-loop
 add-result c = omega arith
 
--- src/luminaire_write.rt:399:1
 same-length : tie.Need-same-length Inv-loop μ-loop
 same-length c =
     let l = c .before in
     let a = l .before .before .before .before .args in
     ap length (l .loop .inv .3) ∙ length-sets (a .offsets .now) (a .count) (take (l .loop .i) (offsetsOf (singleBytes (a .offset) (a .bytes .now))))
 
--- src/luminaire_write.rt:399:1
 same-length-2 : tie.Need-same-length-2 Inv-loop μ-loop
 same-length-2 c =
     let l = c .before in
     let a = l .before .before .before .before .args in
     ap length (l .loop .inv .4) ∙ length-sets (a .values .now) (a .count) (take (l .loop .i) (a .bytes .now))
 
--- src/luminaire_write.rt:399:1
 returns : tie.Need-returns Inv-loop μ-loop
 returns c =
     let l = c .before in

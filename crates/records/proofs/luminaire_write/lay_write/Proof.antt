@@ -1,23 +1,21 @@
-use Rattle.records.proofs.luminaire_write.lay_write.Statement.{statement}
-use Rattle.records.proofs.luminaire_write.lay_write.Tie as tie
-use Rattle.records.proofs.luminaire_write.lay_write.Reads as reads
-use Rattle.records.proofs.luminaire_write.lay_write.Lts as lts
-use Rattle.records.proofs.luminaire_write.WriteStage.bytes.Reads as bytes-reads
-use Rattle.records.proofs.luminaire_write.lay_stage.Reads as lay-stage-reads
-use Rattle.records.proofs.luminaire_write.stage_of.Reads as stage-of-reads
-use mathlib.Core.Path.{_≡_, refl, sym, ap, _∙_}
+-- `records::luminaire_write::lay_write` meets its contract. The invariant: the stores of the stages before a place are
+-- laid. The measure is the number of places that are left.
+-- Assumes nothing.
+use mathlib.Core.Path.{ap, _∙_}
 use mathlib.Core.Logic.{⊎-elim}
-use mathlib.Core.List.{List, [], _∷_}
-use Prim.Native.Nat.{ℕ, _+_, _-_, _*_, _≤_}
+use mathlib.Core.List.{[], _∷_}
+use Prim.Native.Nat.{_+_, _-_, _*_, _≤_}
 use native.Mathlib.Omega.{arith}
 use borrow.Author.Needs.{needs}
 use lib.ListN.{length, take, getElem?}
-use lib.Seq.{sets, take-all}
+use lib.Seq.{take-all}
 use Rattle.records.specs.Steps.{WithinBank}
 use Rattle.records.specs.Writes.{flat, stagesOf, partOf, stageStores}
 use Rattle.records.proofs.Options.{told-stage}
 use Rattle.records.proofs.Stages.{single-count, stage-fits, few-stages}
 use Rattle.records.proofs.Stores.{Laid, none-laid, laid-same, laid-as, next-laid, none-next, stage-laid, offsets-kept, values-kept}
+use Rattle.records.proofs.luminaire_write.lay_write.Statement.{statement}
+use Rattle.records.proofs.luminaire_write.lay_write.Tie as tie
 
 abbrev Inv-loop : tie.InvT-loop
 Inv-loop index field bytes offsets₀ values₀ count terminator n₀ place₀ offsets values n place = (place ≤ 3) × (WithinBank field) × (length bytes ≤ field .len) × (n ≤ 65000 + 256 * place) × Laid offsets₀ values₀ count (flat (stageStores bytes) (take place (stagesOf index field (length bytes)))) offsets values n
@@ -25,29 +23,23 @@ Inv-loop index field bytes offsets₀ values₀ count terminator n₀ place₀ o
 abbrev μ-loop : tie.MeasureT-loop
 μ-loop index field bytes offsets₀ values₀ count terminator n₀ place₀ offsets values n place = 3 - place
 
--- src/luminaire_write.rt:465:5
 loop-holds : tie.Need-loop-holds Inv-loop μ-loop
 loop-holds c =
     let s = c .before .before .before in
     (omega arith, s .pre .0, s .pre .1 .0, s .pre .1 .1, none-laid)
 
--- src/luminaire_write.rt:466:48
 stage-of-requires : tie.Need-stage-of-requires Inv-loop μ-loop
 stage-of-requires c κs = c .before .loop .inv .1
 
--- src/luminaire_write.rt:466:39
 enum-known-stage : tie.Need-enum-known-stage Inv-loop μ-loop
 enum-known-stage c = search needs
 
--- src/luminaire_write.rt:469:36
 slice-aggregate-bytes : tie.Need-slice-aggregate-bytes Inv-loop μ-loop
 slice-aggregate-bytes c = search needs
 
--- src/luminaire_write.rt:469:17
 bytes-requires : tie.Need-bytes-requires Inv-loop μ-loop
 bytes-requires c κs = search needs
 
--- src/luminaire_write.rt:467:13
 lay-stage-requires : tie.Need-lay-stage-requires Inv-loop μ-loop
 lay-stage-requires c κs =
     let g = c .before .before .before .before .before in
@@ -59,15 +51,12 @@ lay-stage-requires c κs =
 enum-told : tie.Need-enum-told Inv-loop μ-loop
 enum-told c = search needs
 
--- src/luminaire_write.rt:475:9
 add-place : tie.Need-add-place Inv-loop μ-loop
 add-place c = omega arith
 
--- src/luminaire_write.rt:465:5
 loop-less : tie.Need-loop-less Inv-loop μ-loop
 loop-less c = omega arith
 
--- src/luminaire_write.rt:465:5
 loop-again : tie.Need-loop-again Inv-loop μ-loop
 loop-again c =
     let l = c .before .before .before in
@@ -85,15 +74,12 @@ loop-again c =
     (omega arith, s .1, s .2, omega (arith, s .3, t .4), laid-as (t .2) (t .3) (t .4) (none-next (stageStores (a .bytes .now)) ss (l .loop .place) (s .4) told)))
     (c .match .came)
 
--- src/luminaire_write.rt:449:1
 same-length : tie.Need-same-length Inv-loop μ-loop
 same-length c = offsets-kept (c .before .loop .inv .4)
 
--- src/luminaire_write.rt:449:1
 same-length-2 : tie.Need-same-length-2 Inv-loop μ-loop
 same-length-2 c = values-kept (c .before .loop .inv .4)
 
--- src/luminaire_write.rt:449:1
 returns : tie.Need-returns Inv-loop μ-loop
 returns c =
     let l = c .before in

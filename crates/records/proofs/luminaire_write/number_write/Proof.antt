@@ -1,14 +1,9 @@
-use Rattle.records.proofs.luminaire_write.number_write.Statement.{statement}
-use Rattle.records.proofs.luminaire_write.number_write.Tie as tie
-use Rattle.records.proofs.luminaire_write.number_write.Reads as reads
-use Rattle.records.proofs.luminaire_write.number_write.Lts as lts
-use Rattle.records.proofs.luminaire_write.LuminaireNumbers.of_field.Reads as of-field-reads
-use Rattle.records.proofs.luminaire_write.byte_of.Reads as byte-of-reads
-use Rattle.records.proofs.output.put.Reads as put-reads
+-- `records::luminaire_write::number_write` meets its contract. The invariant: the first i low bytes are stored. The
+-- measure is the number of those that are left.
+-- Assumes nothing.
 use mathlib.Core.Path.{_≡_, refl, sym, ap, _∙_}
 use mathlib.Core.List.{List}
-use mathlib.Core.Option.{none, some}
-use Prim.Native.Nat.{ℕ, _+_, _-_, _*_, _/_, _%_, _^_, _≤_, _<_}
+use Prim.Native.Nat.{ℕ, _-_, _≤_}
 use native.Mathlib.Omega.{arith}
 use borrow.Author.Needs.{needs}
 use lib.ListN.{length, getD, set, take}
@@ -16,8 +11,10 @@ use lib.Seq.{sets, take-all, length-sets}
 use Rattle.bus.specs.Number.{lowBytes}
 use Rattle.bus.proofs.Number.{length-lowBytes, lowBytes-at}
 use Rattle.bank.proofs.Options.{told-u32}
-use Rattle.records.specs.Writes.{wantedNumber, numberBytes}
+use Rattle.records.specs.Writes.{wantedNumber}
 use Rattle.records.proofs.Laying.{fill-next}
+use Rattle.records.proofs.luminaire_write.number_write.Statement.{statement}
+use Rattle.records.proofs.luminaire_write.number_write.Tie as tie
 
 abbrev Inv-loop : tie.InvT-loop
 Inv-loop index bytes₀ value len i₀ bytes i = (i ≤ len) × (bytes ≡ sets bytes₀ 0 (take i (lowBytes len value)))
@@ -25,19 +22,15 @@ Inv-loop index bytes₀ value len i₀ bytes i = (i ≤ len) × (bytes ≡ sets 
 abbrev μ-loop : tie.MeasureT-loop
 μ-loop index bytes₀ value len i₀ bytes i = len - i
 
--- src/luminaire_write.rt:323:34
 of-field-requires : tie.Need-of-field-requires Inv-loop μ-loop
 of-field-requires c κs = search needs
 
--- src/luminaire_write.rt:323:25
 enum-known-value : tie.Need-enum-known-value Inv-loop μ-loop
 enum-known-value c = search needs
 
--- src/luminaire_write.rt:324:9
 enum-told : tie.Need-enum-told Inv-loop μ-loop
 enum-told c = search needs
 
--- src/luminaire_write.rt:324:9
 returns : tie.Need-returns Inv-loop μ-loop
 returns c =
     let w = c .before .before in
@@ -45,39 +38,30 @@ returns c =
     let no = told-u32 (wantedNumber (a .numbers) (a .field .kind)) (w .of-field .ensures) (c .enum-told .given .1) in
     (rw no, rw no)
 
--- src/luminaire_write.rt:328:5
 loop-holds : tie.Need-loop-holds Inv-loop μ-loop
 loop-holds c = (omega arith, refl)
 
--- src/luminaire_write.rt:329:20
 cast-put : tie.Need-cast-put Inv-loop μ-loop
 cast-put c = omega arith
 
--- src/luminaire_write.rt:329:47
 sub-byte-of : tie.Need-sub-byte-of Inv-loop μ-loop
 sub-byte-of c = omega arith
 
--- src/luminaire_write.rt:329:47
 sub-byte-of-2 : tie.Need-sub-byte-of-2 Inv-loop μ-loop
 sub-byte-of-2 c = omega arith
 
--- src/luminaire_write.rt:329:32
 byte-of-requires : tie.Need-byte-of-requires Inv-loop μ-loop
 byte-of-requires c κs = search needs
 
--- src/luminaire_write.rt:329:9
 put-requires : tie.Need-put-requires Inv-loop μ-loop
 put-requires c κs = search needs
 
--- src/luminaire_write.rt:330:9
 add-i : tie.Need-add-i Inv-loop μ-loop
 add-i c = omega arith
 
--- src/luminaire_write.rt:328:5
 loop-less : tie.Need-loop-less Inv-loop μ-loop
 loop-less c = omega arith
 
--- src/luminaire_write.rt:328:5
 loop-again : tie.Need-loop-again Inv-loop μ-loop
 loop-again c =
     let l = c .before .before .before .before .before .before in
@@ -91,14 +75,12 @@ loop-again c =
           ∙ fill-next (s .bytes .now) (l .loop .i) (lowBytes n v) 0 (rw length-lowBytes (omega arith)),
     )
 
--- src/luminaire_write.rt:314:1
 same-length : tie.Need-same-length Inv-loop μ-loop
 same-length c =
     let l = c .before in
     let s = l .before .before .before .before .before .before .args in
     ap length (l .loop .inv .1) ∙ length-sets (s .bytes .now) 0 (take (l .loop .i) (lowBytes (s .field .len) (l .before .before .value .given .0 .0)))
 
--- src/luminaire_write.rt:314:1
 returns-2 : tie.Need-returns-2 Inv-loop μ-loop
 returns-2 c =
     let l = c .before in

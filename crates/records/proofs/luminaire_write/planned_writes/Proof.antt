@@ -1,11 +1,8 @@
-use Rattle.records.proofs.luminaire_write.planned_writes.Statement.{statement}
-use Rattle.records.proofs.luminaire_write.planned_writes.Tie as tie
-use Rattle.records.proofs.luminaire_write.planned_writes.Reads as reads
-use Rattle.records.proofs.luminaire_write.planned_writes.Lts as lts
-use Rattle.bank.proofs.luminaire_fields.Reads as luminaire-fields-reads
-use Rattle.records.proofs.luminaire_write.lay_planned.Reads as lay-planned-reads
-use mathlib.Core.Path.{_≡_, refl, sym, ap, _∙_}
-use Prim.Native.Nat.{ℕ, _+_, _-_, _*_, _≤_}
+-- `records::luminaire_write::planned_writes` meets its contract. The invariant: the writes of the fields before an
+-- index are laid. The measure is the number of fields that are left.
+-- Assumes nothing.
+use mathlib.Core.Path.{_≡_, _∙_}
+use Prim.Native.Nat.{_-_, _*_, _≤_}
 use native.Mathlib.Omega.{arith}
 use borrow.Author.Needs.{needs}
 use lib.ListN.{take}
@@ -14,6 +11,8 @@ use Rattle.records.specs.Writes.{gather, writesAt, plannedWrites, indice
 use Rattle.records.proofs.Laying.{sets-laid}
 use Rattle.records.proofs.Table.{table-within}
 use Rattle.records.proofs.Planned.{Planned, none-planned, field-planned, counts-few, all-planned, fields-kept, lens-kept, bytes-kept, planned-as}
+use Rattle.records.proofs.luminaire_write.planned_writes.Statement.{statement}
+use Rattle.records.proofs.luminaire_write.planned_writes.Tie as tie
 
 abbrev Inv-loop : tie.InvT-loop
 Inv-loop numbers text-field text fields₀ lens₀ bytes₀ table counts₀ index₀ fields lens bytes counts index = (index ≤ 18) × (table ≡ luminaireFields) × (counts .writes ≤ index) × (counts .bytes ≤ 256 * index) × Planned fields₀ lens₀ bytes₀ (gather (writesAt numbers text-field text) (take index luminaireFields)) fields lens bytes counts
@@ -21,38 +20,30 @@ Inv-loop numbers text-field text fields₀ lens₀ bytes₀ table counts₀ inde
 abbrev μ-loop : tie.MeasureT-loop
 μ-loop numbers text-field text fields₀ lens₀ bytes₀ table counts₀ index₀ fields lens bytes counts index = 18 - index
 
--- src/luminaire_write.rt:446:17
 luminaire-fields-requires : tie.Need-luminaire-fields-requires Inv-loop μ-loop
 luminaire-fields-requires c κs = search needs
 
--- src/luminaire_write.rt:452:5
 loop-holds : tie.Need-loop-holds Inv-loop μ-loop
 loop-holds c = (omega arith, c .luminaire-fields .ensures, omega arith, omega arith, none-planned)
 
--- src/luminaire_write.rt:455:13
 mul-lay-planned : tie.Need-mul-lay-planned Inv-loop μ-loop
 mul-lay-planned c = search needs
 
--- src/luminaire_write.rt:455:13
 array-copy-out-lay-planned : tie.Need-array-copy-out-lay-planned Inv-loop μ-loop
 array-copy-out-lay-planned c = search needs
 
--- src/luminaire_write.rt:453:9
 lay-planned-requires : tie.Need-lay-planned-requires Inv-loop μ-loop
 lay-planned-requires c κs =
     let l = c .before .before .before .before .before in
     let s = l .loop .inv in
     (omega arith, (table-within _ (s .1) (l .loop .index) _ (omega arith), (omega (arith, s .2), omega (arith, s .3))))
 
--- src/luminaire_write.rt:464:9
 add-index : tie.Need-add-index Inv-loop μ-loop
 add-index c = omega arith
 
--- src/luminaire_write.rt:452:5
 loop-less : tie.Need-loop-less Inv-loop μ-loop
 loop-less c = omega arith
 
--- src/luminaire_write.rt:452:5
 loop-again : tie.Need-loop-again Inv-loop μ-loop
 loop-again c =
     let w = c .before .before .before .before .before .before in
@@ -63,19 +54,15 @@ loop-again c =
     let few = counts-few (a .numbers) (a .text-field) (a .text .now) _ (s .1) (l .loop .index) _ (omega arith) (s .2) (s .3) (e .0) in
     (omega arith, s .1, few .0, few .1, field-planned (a .numbers) (a .text-field) (a .text .now) _ (s .1) (l .loop .index) _ (omega arith) (s .4) e)
 
--- src/luminaire_write.rt:433:1
 same-length : tie.Need-same-length Inv-loop μ-loop
 same-length c = fields-kept (c .before .loop .inv .4)
 
--- src/luminaire_write.rt:433:1
 same-length-2 : tie.Need-same-length-2 Inv-loop μ-loop
 same-length-2 c = lens-kept (c .before .loop .inv .4)
 
--- src/luminaire_write.rt:433:1
 same-length-3 : tie.Need-same-length-3 Inv-loop μ-loop
 same-length-3 c = bytes-kept (c .before .loop .inv .4)
 
--- src/luminaire_write.rt:433:1
 returns : tie.Need-returns Inv-loop μ-loop
 returns c =
     let l = c .before in

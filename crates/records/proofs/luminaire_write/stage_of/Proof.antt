@@ -1,15 +1,13 @@
+-- `records::luminaire_write::stage_of` meets its contract: a write has one stage or three.
+-- Assumes nothing.
+use mathlib.Core.Path.{_≡_, sym, ap, _∙_}
+use mathlib.Core.Bool.{true, false}
+use borrow.Author.Tests.{not-true, not-false}
 use borrow.Author.Needs.{needs}
+use Rattle.records.specs.Writes.{isStaged, optionWriteStage}
+use Rattle.records.proofs.Stages.{behind-one, behind-three}
 use Rattle.records.proofs.luminaire_write.stage_of.Statement.{statement}
 use Rattle.records.proofs.luminaire_write.stage_of.Tie as tie
-use Rattle.records.proofs.luminaire_write.stage_of.Reads as reads
-use Rattle.records.proofs.luminaire_write.stage_of.Lts as lts
-use Rattle.records.proofs.luminaire_write.is_staged.Reads as is-staged-reads
-use mathlib.Core.Path.{_≡_, refl, sym, ap, _∙_}
-use mathlib.Core.Bool.{Bool, true, false}
-use native.Mathlib.Omega.{arith}
-use borrow.Author.Tests.{not-true, not-false}
-use Rattle.records.specs.Writes.{isStaged, stagesOf, optionWriteStage}
-use Rattle.records.proofs.Stages.{behind-one, behind-three}
 
 -- one stage, or three
 one : (c : tie.Then1) → (let a = c .before .before .args in isStaged (a .field .kind) (a .len) ≡ false)
@@ -18,35 +16,27 @@ one c = sym (c .before .is-staged .ensures) ∙ not-true _ (c .if1 .taken)
 three : (c : tie.Else1) → (let a = c .before .before .args in isStaged (a .field .kind) (a .len) ≡ true)
 three c = sym (c .before .is-staged .ensures) ∙ not-false _ (c .if1 .left)
 
--- src/luminaire_write.rt:209:9
 is-staged-requires : tie.Need-is-staged-requires
 is-staged-requires c κs = search needs
 
--- src/luminaire_write.rt:210:9
 returns : tie.Need-returns
 returns c = rw (c .match .keys1, one (c .before))
 
--- src/luminaire_write.rt:210:9
 returns-2 : tie.Need-returns-2
 returns-2 c = rw (one (c .before)) (ap optionWriteStage (behind-one _ _ (c .match .rest .1)))
 
--- src/luminaire_write.rt:227:21
 add-t14 : tie.Need-add-t14
 add-t14 c = search needs
 
--- src/luminaire_write.rt:204:1
 returns-3 : tie.Need-returns-3
 returns-3 c = rw (c .match2 .keys1, three (c .before))
 
--- src/luminaire_write.rt:204:1
 returns-4 : tie.Need-returns-4
 returns-4 c = rw (c .match2 .keys2, three (c .before))
 
--- src/luminaire_write.rt:204:1
 returns-5 : tie.Need-returns-5
 returns-5 c = rw (c .match2 .keys3, three (c .before))
 
--- src/luminaire_write.rt:204:1
 returns-6 : tie.Need-returns-6
 returns-6 c =
     let no = c .match2 .rest in

@@ -1,47 +1,38 @@
+-- `records::luminaire_write::text_refusal` meets its contract: the checks of `check_writable`, then one more.
+-- Assumes nothing.
+use mathlib.Core.Path.{sym, ap, _∙_}
+use mathlib.Core.Bool.{not}
 use borrow.Author.Needs.{needs}
-use Rattle.records.proofs.luminaire_write.text_refusal.Statement.{statement}
-use Rattle.records.proofs.luminaire_write.text_refusal.Tie as tie
-use Rattle.records.proofs.luminaire_write.text_refusal.Reads as reads
-use Rattle.records.proofs.luminaire_write.text_refusal.Lts as lts
-use Rattle.bank.proofs.luminaire_write.LuminaireField.accepts_text.Reads as accepts-text-reads
-use Rattle.bank.proofs.check_writable.Reads as check-writable-reads
-use mathlib.Core.Path.{_≡_, refl, sym, ap, _∙_}
-use mathlib.Core.Bool.{Bool, not}
 use Rattle.bank.specs.declared.refusal.Refusal.the-variants.{TextNotAccepted}
 use Rattle.bank.specs.Options.{optionRefusal}
 use Rattle.records.proofs.Refusals.{alone-passed, alone-refused, refused-behind, passed-behind}
+use Rattle.records.proofs.luminaire_write.text_refusal.Statement.{statement}
+use Rattle.records.proofs.luminaire_write.text_refusal.Tie as tie
 
--- src/luminaire_write.rt:504:11
 check-writable-requires : tie.Need-check-writable-requires
 check-writable-requires c κs = search needs
 
--- src/luminaire_write.rt:506:16
 enum-told : tie.Need-enum-told
 enum-told c = search needs
 
--- src/luminaire_write.rt:506:16
 accepts-text-requires : tie.Need-accepts-text-requires
 accepts-text-requires c κs = search needs
 
--- src/luminaire_write.rt:507:17
 returns : tie.Need-returns
 returns c =
     let w = c .before .before .before .before in
     let a = w .before .before .args in
     sym (ap optionRefusal (passed-behind (a .layout) (a .field) _ (sym (w .check-writable .ensures) ∙ c .before .before .enum-told .given .1) ∙ alone-passed TextNotAccepted (ap not (sym (c .before .accepts-text .ensures) ∙ c .if1 .taken))))
 
--- src/luminaire_write.rt:511:36
 enum-known-refusal : tie.Need-enum-known-refusal
 enum-known-refusal c = search needs
 
--- src/luminaire_write.rt:501:1
 returns-2 : tie.Need-returns-2
 returns-2 c =
     let w = c .before .before .before .before in
     let a = w .before .before .args in
     sym (ap optionRefusal (passed-behind (a .layout) (a .field) _ (sym (w .check-writable .ensures) ∙ c .before .before .enum-told .given .1) ∙ alone-refused TextNotAccepted (ap not (sym (c .before .accepts-text .ensures) ∙ c .if1 .left))))
 
--- src/luminaire_write.rt:501:1
 returns-3 : tie.Need-returns-3
 returns-3 c =
     let w = c .before .before .before in

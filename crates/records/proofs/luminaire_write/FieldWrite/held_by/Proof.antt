@@ -1,18 +1,16 @@
-use borrow.Author.Needs.{needs}
-use Rattle.records.proofs.luminaire_write.FieldWrite.held_by.Statement.{statement}
-use Rattle.records.proofs.luminaire_write.FieldWrite.held_by.Tie as tie
-use Rattle.records.proofs.luminaire_write.FieldWrite.held_by.Reads as reads
-use Rattle.records.proofs.luminaire_write.FieldWrite.held_by.Lts as lts
-use Rattle.records.proofs.luminaire_write.FieldWrite.end.Reads as end-reads
-use Rattle.records.proofs.luminaire_write.is_same.Reads as is-same-reads
-use mathlib.Core.Path.{_≡_, refl, sym, ap, _∙_}
+-- `records::luminaire_write::FieldWrite::held_by` meets its contract, by the end that its field gives.
+-- Assumes nothing.
+use mathlib.Core.Path.{_≡_, sym, _∙_}
 use mathlib.Core.Option.{some}
 use native.Mathlib.Omega.{arith}
-use lib.ListN.{length, length-take, length-drop}
+use borrow.Author.Needs.{needs}
+use lib.ListN.{length-take, length-drop}
 use lib.Seq.{length-take-le}
 use Rattle.bank.proofs.Options.{told-index}
 use Rattle.records.specs.Writes.{endOf}
 use Rattle.records.proofs.Held.{held-nowhere, starts-within, held-past, held-unknown, held-same}
+use Rattle.records.proofs.luminaire_write.FieldWrite.held_by.Statement.{statement}
+use Rattle.records.proofs.luminaire_write.FieldWrite.held_by.Tie as tie
 
 -- the write's end
 its-end : (c : tie.After-end2) → (let a = c .before .before .before .before .before .args in endOf (a .self) ≡ some (c .end2 .given .0 .0))
@@ -20,68 +18,55 @@ its-end c =
     let a = c .before .before .before .before .before .args in
     told-index (endOf (a .self)) (c .before .before .end .ensures) (c .end2 .given .1)
 
--- src/luminaire_write.rt:254:38
 end-requires : tie.Need-end-requires
 end-requires c κs = search needs
 
--- src/luminaire_write.rt:254:31
 enum-known-end : tie.Need-enum-known-end
 enum-known-end c = search needs
 
--- src/luminaire_write.rt:255:13
 enum-told : tie.Need-enum-told
 enum-told c = search needs
 
--- src/luminaire_write.rt:255:13
 returns : tie.Need-returns
 returns c =
     let a = c .before .before .before .before .before .args in
     sym (held-nowhere (a .self) (a .bytes .now) (a .bank .now) (told-index (endOf (a .self)) (c .before .before .end .ensures) (c .enum-told .given .1)))
 
--- src/luminaire_write.rt:257:19
 cast-len : tie.Need-cast-len
 cast-len c = search needs
 
--- src/luminaire_write.rt:259:13
 returns-2 : tie.Need-returns-2
 returns-2 c =
     let i = c .before .before .before in
     let a = i .before .before .before .before .before .args in
     sym (held-past (a .self) (a .bytes .now) (a .bank .now) (its-end i) (omega arith))
 
--- src/luminaire_write.rt:262:13
 returns-3 : tie.Need-returns-3
 returns-3 c =
     let i = c .before .before .before .before in
     let a = i .before .before .before .before .before .args in
     sym (held-unknown (a .self) (a .bytes .now) (a .bank .now) (its-end i) (omega arith) (omega arith))
 
--- src/luminaire_write.rt:264:23
 sub-is-same : tie.Need-sub-is-same
 sub-is-same c =
     let i = c .before .before .before .before in
     let a = i .before .before .before .before .before .args in
     starts-within (a .self) (a .bytes .now) (a .bank .now) (its-end i)
 
--- src/luminaire_write.rt:264:17
 sub-is-same-2 : tie.Need-sub-is-same-2
 sub-is-same-2 c = search needs
 
--- src/luminaire_write.rt:264:17
 part-is-same-start : tie.Need-part-is-same-start
 part-is-same-start c = search needs
 
--- src/luminaire_write.rt:264:17
 part-is-same-end : tie.Need-part-is-same-end
 part-is-same-end c = search needs
 
--- src/luminaire_write.rt:264:40
 slice-aggregate-is-same : tie.Need-slice-aggregate-is-same
 slice-aggregate-is-same c =
     let a = c .before .before .before .before .before .before .before .before .before .before .before .args in
     sym (length-take-le (a .self .len) (a .bytes .now) (omega arith))
 
--- src/luminaire_write.rt:264:9
 is-same-requires : tie.Need-is-same-requires
 is-same-requires c κs =
     let i = c .before .before .before .before .before .before in
@@ -89,7 +74,6 @@ is-same-requires c κs =
     let w = starts-within (a .self) (a .bytes .now) (a .bank .now) (its-end i) in
     rw (length-take, length-drop, length-take) (omega arith)
 
--- src/luminaire_write.rt:251:5
 returns-4 : tie.Need-returns-4
 returns-4 c =
     let i = c .before .before .before .before .before .before .before in

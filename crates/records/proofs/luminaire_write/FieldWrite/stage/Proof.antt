@@ -1,43 +1,33 @@
+-- `records::luminaire_write::FieldWrite::stage` meets its contract, by the field that `of_index` finds.
+-- Assumes nothing.
 use borrow.Author.Needs.{needs}
-use Rattle.records.proofs.luminaire_write.FieldWrite.stage.Statement.{statement}
-use Rattle.records.proofs.luminaire_write.FieldWrite.stage.Tie as tie
-use Rattle.records.proofs.luminaire_write.FieldWrite.stage.Reads as reads
-use Rattle.records.proofs.luminaire_write.FieldWrite.stage.Lts as lts
-use Rattle.bank.proofs.luminaire_write.LuminaireField.of_index.Reads as of-index-reads
-use Rattle.records.proofs.luminaire_write.stage_of.Reads as stage-of-reads
-use mathlib.Core.Path.{_≡_, refl, sym, ap, _∙_}
 use lib.ListN.{getElem?}
 use Rattle.bank.specs.Fields.{luminaireFields}
 use Rattle.bank.proofs.Options.{told-field}
 use Rattle.records.proofs.Table.{within-bank}
+use Rattle.records.proofs.luminaire_write.FieldWrite.stage.Statement.{statement}
+use Rattle.records.proofs.luminaire_write.FieldWrite.stage.Tie as tie
 
--- src/luminaire_write.rt:285:49
 of-index-requires : tie.Need-of-index-requires
 of-index-requires c κs = search needs
 
--- src/luminaire_write.rt:285:40
 enum-known-field : tie.Need-enum-known-field
 enum-known-field c = search needs
 
--- src/luminaire_write.rt:286:13
 enum-told : tie.Need-enum-told
 enum-told c = search needs
 
--- src/luminaire_write.rt:286:13
 returns : tie.Need-returns
 returns c = rw (told-field (getElem? luminaireFields (c .before .before .before .args .self .field)) (c .before .before .of-index .ensures) (c .enum-told .given .1))
 
--- src/luminaire_write.rt:288:37
 cast-stage-of : tie.Need-cast-stage-of
 cast-stage-of c = search needs
 
--- src/luminaire_write.rt:288:9
 stage-of-requires : tie.Need-stage-of-requires
 stage-of-requires c κs =
     let i = c .before .before .before .before in
     within-bank (i .before .args .self .field) (told-field (getElem? luminaireFields (i .before .args .self .field)) (i .of-index .ensures) (c .before .before .field .given .1))
 
--- src/luminaire_write.rt:282:5
 returns-2 : tie.Need-returns-2
 returns-2 c =
     let i = c .before .before .before .before .before in

@@ -1,46 +1,36 @@
+-- `records::luminaire_write::FieldWrite::stages` meets its contract, by the field that `of_index` finds.
+-- Assumes nothing.
+use mathlib.Core.Path.{sym, _∙_}
 use borrow.Author.Needs.{needs}
-use Rattle.records.proofs.luminaire_write.FieldWrite.stages.Statement.{statement}
-use Rattle.records.proofs.luminaire_write.FieldWrite.stages.Tie as tie
-use Rattle.records.proofs.luminaire_write.FieldWrite.stages.Reads as reads
-use Rattle.records.proofs.luminaire_write.FieldWrite.stages.Lts as lts
-use Rattle.bank.proofs.luminaire_write.LuminaireField.of_index.Reads as of-index-reads
-use Rattle.records.proofs.luminaire_write.is_staged.Reads as is-staged-reads
-use mathlib.Core.Path.{_≡_, refl, sym, ap, _∙_}
 use lib.ListN.{getElem?}
 use Rattle.bank.specs.Fields.{luminaireFields}
 use Rattle.bank.proofs.Options.{told-field}
+use Rattle.records.proofs.luminaire_write.FieldWrite.stages.Statement.{statement}
+use Rattle.records.proofs.luminaire_write.FieldWrite.stages.Tie as tie
 
--- src/luminaire_write.rt:271:49
 of-index-requires : tie.Need-of-index-requires
 of-index-requires c κs = search needs
 
--- src/luminaire_write.rt:271:40
 enum-known-field : tie.Need-enum-known-field
 enum-known-field c = search needs
 
--- src/luminaire_write.rt:272:13
 enum-told : tie.Need-enum-told
 enum-told c = search needs
 
--- src/luminaire_write.rt:272:13
 returns : tie.Need-returns
 returns c = rw (told-field (getElem? luminaireFields (c .before .before .before .args .self .field)) (c .before .before .of-index .ensures) (c .enum-told .given .1))
 
--- src/luminaire_write.rt:274:29
 cast-is-staged : tie.Need-cast-is-staged
 cast-is-staged c = search needs
 
--- src/luminaire_write.rt:274:12
 is-staged-requires : tie.Need-is-staged-requires
 is-staged-requires c κs = search needs
 
--- src/luminaire_write.rt:268:5
 returns-2 : tie.Need-returns-2
 returns-2 c =
     let i = c .before .before .before .before .before .before in
     rw (told-field (getElem? luminaireFields (i .before .args .self .field)) (i .of-index .ensures) (c .before .before .before .before .field .given .1), sym (c .before .is-staged .ensures) ∙ c .if1 .taken)
 
--- src/luminaire_write.rt:268:5
 returns-3 : tie.Need-returns-3
 returns-3 c =
     let i = c .before .before .before .before .before .before in

@@ -1,14 +1,9 @@
-use borrow.Author.Needs.{needs}
-use Rattle.records.proofs.luminaire_write.Plan.field_refusal.Statement.{statement}
-use Rattle.records.proofs.luminaire_write.Plan.field_refusal.Tie as tie
-use Rattle.records.proofs.luminaire_write.Plan.field_refusal.Reads as reads
-use Rattle.records.proofs.luminaire_write.Plan.field_refusal.Lts as lts
-use Rattle.records.proofs.luminaire_write.Plan.wanted_refusal.Reads as wanted-refusal-reads
-use Rattle.records.proofs.luminaire_write.is_for.Reads as is-for-reads
-use Rattle.records.proofs.luminaire_write.text_refusal.Reads as text-refusal-reads
-use mathlib.Core.Path.{_≡_, refl, sym, ap, _∙_}
+-- `records::luminaire_write::Plan::field_refusal` meets its contract: the checks of the number, then those of the text.
+-- Assumes nothing.
+use mathlib.Core.Path.{sym, ap, _∙_}
 use mathlib.Core.List.{List}
 use borrow.Author.Tests.{not-true, not-false}
+use borrow.Author.Needs.{needs}
 use Rattle.bank.specs.Refusal.{Check, firstOf}
 use Rattle.bank.specs.Options.{optionRefusal}
 use Rattle.bank.proofs.Options.{told-refusal}
@@ -16,6 +11,8 @@ use Rattle.bank.proofs.Checks.{refused-first, passed-first}
 use Rattle.records.specs.Writes.{wantedNumber}
 use Rattle.records.specs.Plan.{ifWanted, numberChecks}
 use Rattle.records.proofs.Refusals.{first-none}
+use Rattle.records.proofs.luminaire_write.Plan.field_refusal.Statement.{statement}
+use Rattle.records.proofs.luminaire_write.Plan.field_refusal.Tie as tie
 
 -- the checks of the wanted number
 abbrev checks : (c : tie.After-wanted-refusal) → List Check
@@ -23,15 +20,12 @@ checks c =
     let a = c .before .before .args in
     ifWanted (wantedNumber (a .self .numbers) (a .field .kind)) (numberChecks (a .self .layout) (a .field))
 
--- src/luminaire_write.rt:538:47
 wanted-refusal-requires : tie.Need-wanted-refusal-requires
 wanted-refusal-requires c κs = search needs
 
--- src/luminaire_write.rt:538:36
 enum-known-refusal : tie.Need-enum-known-refusal
 enum-known-refusal c = search needs
 
--- src/luminaire_write.rt:539:13
 returns : tie.Need-returns
 returns c =
     let w = c .before .before .before in
@@ -40,21 +34,17 @@ returns c =
 enum-told : tie.Need-enum-told
 enum-told c = search needs
 
--- src/luminaire_write.rt:542:13
 is-for-requires : tie.Need-is-for-requires
 is-for-requires c κs = search needs
 
--- src/luminaire_write.rt:543:13
 returns-2 : tie.Need-returns-2
 returns-2 c =
     let w = c .before .before .before .before in
     rw (passed-first (checks w) _ (told-refusal (firstOf (checks w)) (w .wanted-refusal .ensures) (c .before .before .enum-told .given .1)), sym (c .before .is-for .ensures) ∙ not-true _ (c .if1 .taken)) (ap optionRefusal (sym first-none))
 
--- src/luminaire_write.rt:545:9
 text-refusal-requires : tie.Need-text-refusal-requires
 text-refusal-requires c κs = search needs
 
--- src/luminaire_write.rt:535:5
 returns-3 : tie.Need-returns-3
 returns-3 c =
     let w = c .before .before .before .before .before in

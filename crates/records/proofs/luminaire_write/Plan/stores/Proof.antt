@@ -1,11 +1,6 @@
-use Rattle.records.proofs.luminaire_write.Plan.stores.Statement.{statement}
-use Rattle.records.proofs.luminaire_write.Plan.stores.Tie as tie
-use Rattle.records.proofs.luminaire_write.Plan.stores.Reads as reads
-use Rattle.records.proofs.luminaire_write.Plan.stores.Lts as lts
-use Rattle.records.proofs.luminaire_write.Plan.refusal.Reads as refusal-reads
-use Rattle.records.proofs.luminaire_write.lay_stores.Reads as lay-stores-reads
-use Rattle.records.proofs.luminaire_write.store_count.Reads as store-count-reads
-use mathlib.Core.Path.{_≡_, refl, sym, ap, _∙_}
+-- `records::luminaire_write::Plan::stores` meets its contract: refused by a check, by a short slice, or laid.
+-- Assumes nothing.
+use mathlib.Core.Path.{_≡_, ap, _∙_}
 use mathlib.Core.Option.{none}
 use native.Mathlib.Omega.{arith}
 use borrow.Author.Needs.{needs}
@@ -17,20 +12,19 @@ use Rattle.records.specs.declared.ResultUsize.the-variants.{Ok}
 use Rattle.records.specs.Writes.{offsetsOf, valuesOf}
 use Rattle.records.specs.Plan.{planChecks, storesOf}
 use Rattle.records.proofs.Plans.{plan-refused, offsets-short, values-short, plan-accepted}
+use Rattle.records.proofs.luminaire_write.Plan.stores.Statement.{statement}
+use Rattle.records.proofs.luminaire_write.Plan.stores.Tie as tie
 
 -- no check but the last applies
 sound : (c : tie.After-enum-told) → (let a = c .before .before .before .before .before .before .args in firstOf (planChecks (a .self) (a .text .now)) ≡ none)
 sound c = told-refusal _ (c .before .before .refusal .ensures) (c .enum-told .given .1)
 
--- src/luminaire_write.rt:653:47
 refusal-requires : tie.Need-refusal-requires
 refusal-requires c κs = search needs
 
--- src/luminaire_write.rt:653:36
 enum-known-refusal : tie.Need-enum-known-refusal
 enum-known-refusal c = search needs
 
--- src/luminaire_write.rt:654:13
 returns : tie.Need-returns
 returns c =
     let a = c .before .before .before .before .before .before .before .args in
@@ -39,11 +33,9 @@ returns c =
 enum-told : tie.Need-enum-told
 enum-told c = search needs
 
--- src/luminaire_write.rt:657:13
 store-count-requires : tie.Need-store-count-requires
 store-count-requires c κs = search needs
 
--- src/luminaire_write.rt:659:13
 returns-2 : tie.Need-returns-2
 returns-2 c =
     let n = c .before in
@@ -51,7 +43,6 @@ returns-2 c =
     let few = n .store-count .ensures in
     offsets-short (a .self) (a .text .now) (a .offsets .now) (a .values .now) (sound (n .before)) (omega arith)
 
--- src/luminaire_write.rt:662:13
 returns-3 : tie.Need-returns-3
 returns-3 c =
     let n = c .before .before in
@@ -59,25 +50,21 @@ returns-3 c =
     let few = n .store-count .ensures in
     values-short (a .self) (a .text .now) (a .offsets .now) (a .values .now) (sound (n .before)) (omega arith) (omega arith)
 
--- src/luminaire_write.rt:664:25
 lay-stores-requires : tie.Need-lay-stores-requires
 lay-stores-requires c κs = search needs
 
--- src/luminaire_write.rt:648:5
 same-length : tie.Need-same-length
 same-length c =
     let l = c .before .before .before .before in
     let a = l .before .before .before .before .before .before .before .before .before .before .before .before .args in
     ap length (l .lay-stores .ensures .1 .0) ∙ length-laid (offsetsOf (storesOf (a .self) (a .text .now))) (a .offsets .now)
 
--- src/luminaire_write.rt:648:5
 same-length-2 : tie.Need-same-length-2
 same-length-2 c =
     let l = c .before .before .before .before in
     let a = l .before .before .before .before .before .before .before .before .before .before .before .before .args in
     ap length (l .lay-stores .ensures .1 .1) ∙ length-laid (valuesOf (storesOf (a .self) (a .text .now))) (a .values .now)
 
--- src/luminaire_write.rt:648:5
 returns-4 : tie.Need-returns-4
 returns-4 c =
     let l = c .before .before .before .before in

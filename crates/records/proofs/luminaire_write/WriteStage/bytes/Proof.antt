@@ -1,49 +1,36 @@
+-- `records::luminaire_write::WriteStage::bytes` meets its contract, part by part.
+-- Assumes nothing.
 use borrow.Author.Needs.{needs}
 use Rattle.records.proofs.luminaire_write.WriteStage.bytes.Statement.{statement}
 use Rattle.records.proofs.luminaire_write.WriteStage.bytes.Tie as tie
-use Rattle.records.proofs.luminaire_write.WriteStage.bytes.Reads as reads
-use Rattle.records.proofs.luminaire_write.WriteStage.bytes.Lts as lts
-use Rattle.records.proofs.luminaire_write.head.Reads as head-reads
-use Rattle.records.proofs.luminaire_write.tail.Reads as tail-reads
-use mathlib.Core.Path.{_≡_, ap, _∙_}
 
--- src/luminaire_write.rt:166:38
 enum-told : tie.Need-enum-told
 enum-told c = search needs
 
--- src/luminaire_write.rt:167:33
 enum-told-2 : tie.Need-enum-told-2
 enum-told-2 c = search needs
 
--- src/luminaire_write.rt:168:32
 enum-told-3 : tie.Need-enum-told-3
 enum-told-3 c = search needs
 
--- src/luminaire_write.rt:168:32
 tail-requires : tie.Need-tail-requires
 tail-requires c κs = search needs
 
--- src/luminaire_write.rt:169:32
 enum-told-4 : tie.Need-enum-told-4
 enum-told-4 c = search needs
 
--- src/luminaire_write.rt:169:32
 head-requires : tie.Need-head-requires
 head-requires c κs = search needs
 
--- src/luminaire_write.rt:161:5
 returns : tie.Need-returns
 returns c = search needs
 
--- src/luminaire_write.rt:161:5
 returns-2 : tie.Need-returns-2
 returns-2 c = search needs
 
--- src/luminaire_write.rt:161:5
 returns-3 : tie.Need-returns-3
 returns-3 c = rw (c .before .enum-told3 .given .1) (c .tail .ensures)
 
--- src/luminaire_write.rt:161:5
 returns-4 : tie.Need-returns-4
 returns-4 c = rw (c .before .enum-told4 .given .1) (c .head .ensures)
 
