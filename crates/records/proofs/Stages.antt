@@ -65,7 +65,7 @@ bytes-fit (Text t) n which text place f {bytes} e =
     omega (arith, sym (ap length b) ∙ length-take (f .len) (text ++ (0 ∷ []))))
     (λ w. no-element (rw w at e))
 
-some-same : {A : Type 0} {x y : A} → some x ≡ some y → x ≡ y
+pub some-same : {A : Type 0} {x y : A} → some x ≡ some y → x ≡ y
 some-same e = cc
 
 abbrev optional : OptionFieldWrite → Option FieldWrite

@@ -47,11 +47,11 @@ pub record Laid (os vs : List ℕ) (n : ℕ) (ss : List Store) (os′ vs′ : Li
   pub offsets : os′ ≡ sets os n (offsetsOf ss)
   pub values : vs′ ≡ sets vs n (valuesOf ss)
 
-offsets-count : (ss : List Store) → length (offsetsOf ss) ≡ length ss
+pub offsets-count : (ss : List Store) → length (offsetsOf ss) ≡ length ss
 offsets-count [] = refl
 offsets-count (s ∷ ss) = ap suc (offsets-count ss)
 
-values-count : (ss : List Store) → length (valuesOf ss) ≡ length ss
+pub values-count : (ss : List Store) → length (valuesOf ss) ≡ length ss
 values-count [] = refl
 values-count (s ∷ ss) = ap suc (values-count ss)
 

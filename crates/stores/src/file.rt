@@ -7,7 +7,7 @@ use bus::OptionU8;
 use records::LuminaireNumbers;
 use records::Plan;
 ghost use mathlib.Core.Path.{_≡_};
-ghost use Prim.Native.Nat.{_+_, _≤_};
+ghost use Prim.Native.Nat.{_+_, _*_, _^_, _≤_, _<_};
 ghost use lib.ListN.{length, take, drop};
 ghost use Rattle.bus.specs.Number.{number};
 ghost use Rattle.stores.specs.File.{isMarked, isGood, layoutIn, numbersIn, textField, parsed, optionPlan};
@@ -28,7 +28,8 @@ pub(crate) enum OptionPlan {
 // The number that so many bytes make, high byte first.
 fn number_at(file: &[u8], at: usize, len: usize) -> u32
     requires { ⌜ (len ≤ 4) × (at + len ≤ length (now file)) ⌝ }
-    ensures { λ r. ⌜ r ≡ number (take len (drop at (now (file .entry)))) ⌝ }
+    ensures value { λ r. ⌜ r ≡ number (take len (drop at (now (file .entry)))) ⌝ }
+    ensures small { λ r. ⌜ r < 2 ^ (8 * len) ⌝ }
 {
     let mut n = 0;
     let mut i = 0;

@@ -1,35 +1,48 @@
+-- `stores::listing::put_counted` meets its contract: word, number and line feed, one behind the other.
+-- Assumes nothing.
+use mathlib.Core.Path.{ap, _∙_}
+use mathlib.Core.List.{List}
+use Prim.Native.Nat.{ℕ}
+use native.Mathlib.Omega.{arith}
 use borrow.Author.Needs.{needs}
+use lib.ListN.{length, set}
+use lib.Seq.{sets}
+use Rattle.stores.specs.Listing.{decimal}
+use Rattle.stores.proofs.Lines.{decimal-short, counted-length, three-laid}
 use Rattle.stores.proofs.listing.put_counted.Statement.{statement}
 use Rattle.stores.proofs.listing.put_counted.Tie as tie
-use Rattle.stores.proofs.listing.put_counted.Reads as reads
-use Rattle.stores.proofs.listing.put_counted.Lts as lts
-use Rattle.records.proofs.output.put.Reads as put-reads
-use Rattle.records.proofs.output.put_all.Reads as put-all-reads
-use Rattle.stores.proofs.listing.put_decimal.Reads as put-decimal-reads
 
--- src/listing.rt:62:5
 put-all-requires : tie.Need-put-all-requires
 put-all-requires c κs = search needs
 
--- src/listing.rt:63:9
 put-decimal-requires : tie.Need-put-decimal-requires
 put-decimal-requires c κs = search needs
 
--- src/listing.rt:64:5
 put-requires : tie.Need-put-requires
 put-requires c κs = search needs
 
--- src/listing.rt:65:5
 add-result : tie.Need-add-result
-add-result c = ?
+add-result c =
+    let d = c .before .before .before .before .before .before in
+    let a = d .before .before .before .before .before .before .before .before .args in
+    omega (arith, d .put-decimal .ensures .0, decimal-short (a .n))
 
--- src/listing.rt:57:1
 same-length : tie.Need-same-length
 same-length c = search needs
 
--- src/listing.rt:57:1
 returns : tie.Need-returns
-returns c = ?
+returns c =
+    let p = c .before .before in
+    let d = p .before .before .before .before in
+    let w = d .before .before .before .before in
+    let a = w .before .before .before .before .args in
+    let all = counted-length (a .word .now) (a .n) in (
+      omega (arith, d .put-decimal .ensures .0, all),
+      p .put .ensures
+          ∙ ap (λ (l : List ℕ). set l (d .put-decimal .result) 0x0A) (d .put-decimal .ensures .1 ∙ ap (λ (l : List ℕ). sets l (length (a .word .now)) (decimal (a .n))) (w .put-all .ensures))
+          ∙ ap (λ (k : ℕ). set (sets (sets (a .out .now) 0 (a .word .now)) (length (a .word .now)) (decimal (a .n))) k 0x0A) (d .put-decimal .ensures .0)
+          ∙ three-laid (a .out .now) (a .word .now) (decimal (a .n)) 0x0A,
+    )
 
 pub put-counted-spec : {M : Type 1} → statement M
 put-counted-spec =
