@@ -16,7 +16,7 @@ use bank::luminaire_fields;
 ghost use mathlib.Core.Path.{_≡_};
 ghost use Prim.Native.Nat.{_+_, _*_, _/_, _%_, _^_, _≤_};
 ghost use lib.Count.{ones};
-ghost use lib.ListN.{length, take, drop, getElem?, set};
+ghost use lib.ListN.{length, take, drop, getElem?};
 ghost use lib.Seq.{sets};
 ghost use Rattle.bus.specs.Value.{laidInto};
 ghost use Rattle.bank.specs.Refusal.{firstOf};
