@@ -7,7 +7,8 @@ mod writes;
 
 use dali2rust_contracts::msg::{LuminaireNumbers, LuminaireTextField};
 use dali2rust_domain::dali::banks::luminaire_write::{
-    check_writable, Bank1Layout, Bank1WriteRefusal, FieldKind, LuminaireField, NumberRule, LUMINAIRE_FIELDS,
+    check_writable, Bank1Layout, Bank1WriteRefusal, FieldKind, LuminaireField, NumberRule, BANK1_HEADER_LEN,
+    BANK_UNLOCKED, LUMINAIRE_FIELDS, TEXT_TERMINATOR,
 };
 use dali2rust_domain::dali::banks::part251::LuminaireFormat;
 
@@ -86,6 +87,12 @@ pub const FUNCTIONS: &[&dyn Function] = &[
     &Row::new(0x3C, "FieldWrite::stages", stages, write_cases).random(random_write),
     &Row::new(0x3D, "the count of wanted numbers", |numbers: Numbers| numbers.mask.count_ones(), mask_cases),
     &Row::new(0x3E, "a plan", planned, plan_cases).random(random_plan).rounds(2),
+    &Row::new(
+        0x3F,
+        "the constants of luminaire_write.rs",
+        |_: ()| (BANK_UNLOCKED, BANK1_HEADER_LEN, TEXT_TERMINATOR),
+        |_| vec![()],
+    ),
 ];
 
 const TEXTS: [LuminaireTextField; 6] = [

@@ -29,7 +29,7 @@ pub(crate) fn answer(number: u8, request: &[u8], text: &mut [u8], n: usize) -> u
             Bank1Layout::from_header(line::slice_at(request, 1)),
         ),
         0x38 => check_writable(request, text, n),
-        0x39..=0x3E => plan::answer(number, request, text, n),
+        0x39..=0x3F => plan::answer(number, request, text, n),
         _ => n,
     }
 }

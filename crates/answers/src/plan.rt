@@ -7,6 +7,8 @@ use records::LuminaireNumbers;
 use records::OptionWriteStage;
 use records::Plan;
 use records::ResultUsize;
+use records::luminaire_write::BANK_UNLOCKED;
+use records::luminaire_write::BANK1_HEADER_LEN;
 use records::luminaire_write::TEXT_TERMINATOR;
 use records::planned_writes;
 ghost use Prim.Native.Nat.{_+_, _≤_};
@@ -22,6 +24,7 @@ pub(crate) fn answer(number: u8, request: &[u8], text: &mut [u8], n: usize) -> u
         0x3C => put_stages(text, n, write_at(request, 1), line::slice_at(request, 9)),
         0x3D => line::put_u32(text, n, numbers_at(request, 1).wanted()),
         0x3E => answer_stores(request, text, n),
+        0x3F => constants(text, n),
         _ => n,
     }
 }
@@ -203,4 +206,10 @@ fn put_result_usize(text: &mut [u8], n: usize, result: ResultUsize) -> usize {
         }
         ResultUsize::Err(refusal) => line::put_refusal(text, n, refusal),
     }
+}
+
+fn constants(text: &mut [u8], n: usize) -> usize {
+    let m = line::put_u8(text, n, BANK_UNLOCKED);
+    let k = line::put_u16(text, m, BANK1_HEADER_LEN);
+    line::put_u8(text, k, TEXT_TERMINATOR)
 }

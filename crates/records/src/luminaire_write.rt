@@ -13,6 +13,7 @@ use bank::Refusal;
 use bank::ResultLuminaireFormat;
 use bank::check_writable;
 use bank::luminaire_fields;
+use bus::part251::BANK1_FORMAT_GATE_LAST_OFFSET;
 ghost use mathlib.Core.Path.{_≡_};
 ghost use Prim.Native.Nat.{_+_, _*_, _/_, _%_, _^_, _≤_};
 ghost use lib.Count.{ones};
@@ -25,6 +26,11 @@ ghost use Rattle.bank.specs.Options.{optionU32, optionUsize, optionRefusal};
 ghost use Rattle.records.specs.Writes.{numberValues, numberFor, wantedNumber, isFor, numberBytes, terminated, bytesFor, bytesIn, counted, optionFieldWrite, written, writesAt, plannedWrites, indices, lengths, allBytes, endOf, same, heldBy, isStaged, stagesOf, optionWriteStage, stagesAt, partOf, singleBytes, writeStores, storesAt, planStores, offsetsOf, valuesOf, gather};
 ghost use Rattle.records.specs.Plan.{numberChecks, textChecks, ifWanted, fieldChecks, indexOver, planChecks, planned, offsetsAfter, valuesAfter};
 ghost use Rattle.records.specs.Steps.{WithinBank, countsWith};
+
+// IEC 62386-102 §9.10.2, table 8
+pub const BANK_UNLOCKED: u8 = 0x55;
+
+pub const BANK1_HEADER_LEN: u16 = BANK1_FORMAT_GATE_LAST_OFFSET as u16 + 1;
 
 // DiiA 251 §9.2.5
 pub const TEXT_TERMINATOR: u8 = 0;
