@@ -3,13 +3,12 @@
 use mathlib.Core.Path.{_≡_, refl}
 use mathlib.Core.List.{List, [], _∷_, head?}
 use mathlib.Core.Option.{none, some}
-use Prim.Native.Nat.{ℕ, _+_, _*_, _≤_, _<_}
+use Prim.Native.Nat.{ℕ, _≤_, _<_}
 use native.Mathlib.Nat.{not-suc-le-zero}
 use native.Mathlib.Omega.{arith}
 use borrow.Author.Tests.{le-leb, lt-leb}
 use lib.ListN.{length, getD, take, drop}
 use Rattle.bus.specs.Number.{number}
-use Rattle.bus.proofs.Number.{number-next}
 use Rattle.bank.specs.Fields.{idIn}
 
 pub no-first : (h : List ℕ) → length h ≡ 0 → head? h ≡ none
@@ -24,8 +23,6 @@ pub no-id : (h : List ℕ) → length h < 19 → idIn h ≡ none
 unfolding idIn
 no-id h l = rw (lt-leb 19 (length h) l)
 
-pub id : (h : List ℕ) → 19 ≤ length h → idIn h ≡ some (getD h 17 0 * 256 + getD h 18 0)
-unfolding idIn number
-id h l =
-    let e : number (take 2 (drop 17 h)) ≡ getD h 17 0 * 256 + getD h 18 0 = omega (arith, number-next h 17 1 (omega arith), number-next h 17 0 (omega arith)) in
-    rw (le-leb 19 (length h) l, e)
+pub id : (h : List ℕ) → 19 ≤ length h → idIn h ≡ some (number (take 2 (drop 17 h)))
+unfolding idIn
+id h l = rw (le-leb 19 (length h) l)

@@ -6,6 +6,7 @@ use crate::refusal::Refusal;
 use bus::LuminaireFormat;
 use bus::OptionLuminaireFormat;
 use bus::OptionU8;
+use bus::number_of;
 use bus::part251::CCT_OFFSET;
 use bus::part251::CONTENT_FORMAT_ID_OFFSET;
 use bus::part251::CRI_OFFSET;
@@ -438,7 +439,7 @@ fn id_in(header: &[u8]) -> OptionU16
     if header.len() < at + 2 {
         return OptionU16::None;
     }
-    OptionU16::Some(header[at] as u16 * 256 + header[at + 1] as u16)
+    OptionU16::Some(number_of(&header[at..at + 2]) as u16)
 }
 
 fn first_byte(header: &[u8]) -> OptionU8

@@ -2,13 +2,13 @@
 -- Assumes nothing.
 use mathlib.Core.Path.{_≡_, refl, sym, ap, _∙_}
 use mathlib.Core.List.{List, [], _∷_, _++_}
-use Prim.Native.Nat.{ℕ, zero, suc, _+_, _-_, _*_, _/_, _%_, _^_, _<_}
+use Prim.Native.Nat.{ℕ, zero, suc, _+_, _-_, _*_, _/_, _%_, _^_, _≤_, _<_}
 use native.Mathlib.Nat.{mul-assoc, le-of-suc-le-suc, not-suc-le-zero}
 use native.Mathlib.Numerals.{add-one}
 use native.Mathlib.Omega.{arith}
-use lib.ListN.{length, getD, take, drop, length-append, length-drop}
-use lib.Seq.{take-suc, drop-cons, getD-drop}
-use lib.Pow.{pow-add, mod-pow-add}
+use lib.ListN.{length, getD, take, drop, length-append, length-take}
+use lib.Seq.{take-suc, take-all, drop-cons}
+use lib.Pow.{pow-add, pow-mono, mod-pow-add}
 use Rattle.bus.specs.Number.{number, lowBytes}
 
 -- one byte more makes 256 times as many numbers
@@ -26,11 +26,23 @@ number-snoc (x ∷ bs) b =
     let r : number (bs ++ (b ∷ [])) ≡ number bs * 256 + b = number-snoc bs b in
     rw (p, r) (omega (arith, mul-assoc x (2 ^ (8 * length bs)) 256))
 
-pub number-next : (bs : List ℕ) (o i : ℕ) → o + i < length bs → number (take (i + 1) (drop o bs)) ≡ number (take i (drop o bs)) * 256 + getD bs (o + i) 0
-number-next bs o i h =
-    let k : i < length (drop o bs) = rw length-drop (omega arith) in
-    ap number (rw (add-one, take-suc (drop o bs) i 0 k, getD-drop))
-    ∙ number-snoc (take i (drop o bs)) (getD bs (o + i) 0)
+pub number-next : (bs : List ℕ) (i : ℕ) → i < length bs → number (take (i + 1) bs) ≡ number (take i bs) * 256 + getD bs i 0
+number-next bs i h = ap number (rw (add-one, take-suc bs i 0 h)) ∙ number-snoc (take i bs) (getD bs i 0)
+
+-- at most eight bytes
+pub number-few : (bs : List ℕ) → length bs ≤ 8 → number (take 8 bs) ≡ number bs
+number-few bs h = ap number (take-all 8 bs h)
+
+-- a part of at most eight, as it is lent
+pub number-part : (bs : List ℕ) (o n : ℕ) → n ≤ 8 → number (take 8 (take (o + n - o) (drop o bs))) ≡ number (take n (drop o bs))
+number-part bs o n h =
+    let all : o + n - o ≡ n = omega arith in
+    ap (λ (k : ℕ). number (take 8 (take k (drop o bs)))) all ∙ number-few (take n (drop o bs)) (omega (arith, length-take n (drop o bs)))
+
+pub part-below : (bs : List ℕ) (o n : ℕ) {r : ℕ} → r < 2 ^ (8 * length (take (o + n - o) (drop o bs))) → r < 2 ^ (8 * n)
+part-below bs o n h =
+    let few : 2 ^ (8 * length (take (o + n - o) (drop o bs))) ≤ 2 ^ (8 * n) = pow-mono (omega (arith, length-take (o + n - o) (drop o bs))) in
+    omega (arith, few)
 
 pub number-one : (bs : List ℕ) (o : ℕ) → o < length bs → number (take 1 (drop o bs)) ≡ getD bs o 0
 unfolding number

@@ -29,8 +29,8 @@ pub use part251::LuminaireFormat;
 pub use part251::OptionLuminaireFormat;
 pub use part251::TextRegion;
 ghost use mathlib.Core.Path.{_≡_};
-ghost use Prim.Native.Nat.{_+_, _^_, _≤_, _<_};
-ghost use lib.ListN.{length, take, drop};
+ghost use Prim.Native.Nat.{_*_, _^_, _<_};
+ghost use lib.ListN.{length, take};
 ghost use Rattle.bus.specs.Number.{number};
 ghost use Rattle.bus.specs.Width.{bytesOf, signed, maskOf, tmaskOf, maxValidOf, toSigned, signedMeaning};
 ghost use Rattle.bus.specs.Value.{classified, valueOf, unavailable, saturated, readAt, encoded};
@@ -180,18 +180,21 @@ pub enum OptionBankValue {
     None,
 }
 
-// The number that n bytes from an offset on make, high byte first.
-fn number_at(bytes: &[u8], offset: usize, n: usize) -> u64
-    requires { ⌜ (n ≤ 8) × (offset + n ≤ length (now bytes)) ⌝ }
-    ensures { λ r. ⌜ r ≡ number (take n (drop offset (now (bytes .entry)))) ⌝ }
+// The number that bytes make, high byte first; of more than eight the first eight.
+pub fn number_of(bytes: &[u8]) -> u64
+    ensures value { λ r. ⌜ r ≡ number (take 8 (now (bytes .entry))) ⌝ }
+    ensures below { λ r. ⌜ r < 2 ^ (8 * length (now (bytes .entry))) ⌝ }
 {
-    let mut raw: u64 = 0;
+    let mut number: u64 = 0;
     let mut i = 0;
-    while i < n {
-        raw = raw * 256 + bytes[offset + i] as u64;
+    while i < 8 {
+        if bytes.len() <= i {
+            return number;
+        }
+        number = number * 256 + bytes[i] as u64;
         i += 1;
     }
-    raw
+    number
 }
 
 // What a bank's bytes say at an offset; nothing where they are not all present.
@@ -205,7 +208,7 @@ pub fn read_value(bytes: &[u8], offset: usize, width: ValueWidth) -> OptionBankV
     if bytes.len() - n < offset {
         return OptionBankValue::None;
     }
-    let raw = number_at(bytes, offset, n);
+    let raw = number_of(&bytes[offset..offset + n]);
     OptionBankValue::Some(classify(raw, width))
 }
 

@@ -24,9 +24,13 @@ untilZero (b ∷ bs) = cond (eqb b 0) [] (b ∷ untilZero bs)
 abbrev pub hexDigit : ℕ → ℕ
 hexDigit n = cond (ltb n 10) (0x30 + n) (0x41 + (n - 10))
 
+-- "two upper-case hex digits"
+abbrev pub hexDigits : ℕ → List ℕ
+hexDigits b = hexDigit (b / 16) ∷ hexDigit (b % 16) ∷ []
+
 -- "`\xNN`, NN being two upper-case hex digits"
 abbrev pub escape : ℕ → List ℕ
-escape b = 0x5C ∷ 0x78 ∷ hexDigit (b / 16) ∷ hexDigit (b % 16) ∷ []
+escape b = 0x5C ∷ 0x78 ∷ hexDigits b
 
 -- "At each place a well-formed UTF-8 sequence (Unicode, table 3-7) is copied and any other byte becomes `\xNN`": the
 -- piece that stands for the bytes at the start of a text

@@ -1,8 +1,8 @@
 // Who a device is (identity.rs, IEC 62386-102 §9.10.6, Table 9).
+use bus::number_of;
 ghost use mathlib.Core.Path.{_≡_};
 ghost use Prim.Native.Nat.{_+_, _-_, _≤_};
 ghost use lib.ListN.{length, take, drop};
-ghost use Rattle.bus.specs.Number.{number};
 ghost use Rattle.records.specs.Places.{allFF};
 ghost use Rattle.records.specs.Identity.{ofWindow, ofBank0, knownOf};
 
@@ -120,17 +120,4 @@ pub(crate) fn is_mask(bytes: &[u8]) -> bool
         i += 1;
     }
     true
-}
-
-pub(crate) fn number_of(bytes: &[u8]) -> u64
-    requires { ⌜ length (now bytes) ≤ 8 ⌝ }
-    ensures { λ r. ⌜ r ≡ number (now (bytes .entry)) ⌝ }
-{
-    let mut number: u64 = 0;
-    let mut i = 0;
-    while i < bytes.len() {
-        number = number * 256 + bytes[i] as u64;
-        i += 1;
-    }
-    number
 }

@@ -1,6 +1,6 @@
 // The record layer: what the bytes of a bank say (memory_bank_parser.rs, attributes.rs) and its texts (part251.rs), who a
-// device is (identity.rs), and what a bus unit is made of (bus_unit.rs), and the plan
-// of a write to bank 1 (luminaire_write.rs).
+// device is (identity.rs), what a bus unit is made of (bus_unit.rs), and the plan of a write to bank 1
+// (luminaire_write.rs).
 pub mod attributes;
 pub mod bus_unit;
 pub mod fixed_text;

@@ -12,7 +12,7 @@ use crate::identity::GTIN_OFFSET;
 use crate::identity::IDENTIFICATION_NUMBER_LEN;
 use crate::identity::IDENTIFICATION_NUMBER_OFFSET;
 use crate::identity::is_mask;
-use crate::identity::number_of;
+use crate::output::hex_digits;
 use crate::part251::text_len;
 use crate::utf8::sequence_len;
 use bus::BankValue;
@@ -21,6 +21,7 @@ use bus::OptionU8;
 use bus::OptionU64;
 use bus::TextRegion;
 use bus::ValueWidth;
+use bus::number_of;
 use bus::read_value;
 use bus::signed_byte;
 ghost use mathlib.Core.Path.{_≡_};
@@ -31,7 +32,7 @@ ghost use Rattle.bus.specs.Value.{notImplemented, laidInto};
 ghost use Rattle.records.specs.Options.{optionI8, optionBankReading};
 ghost use Rattle.records.specs.Places.{fieldAt, isThere, byteAt, numberAt, readingOf, readingAt, isScale, scaleOf, scaleAt};
 ghost use Rattle.records.specs.Records.{bank0Identity, bank1Profile, bank0BusUnit, energyBank, condition, gearDiagnostics, sourceDiagnostics, luminaireMaintenance};
-ghost use Rattle.records.specs.Text.{hexDigit, escape, piece, escaped, shownText, textRegion};
+ghost use Rattle.records.specs.Text.{escape, piece, escaped, shownText, textRegion};
 ghost use Rattle.records.specs.Steps.{pushedLen, afterPush, pushed};
 
 pub struct ParsedMemoryIdentity {
@@ -312,17 +313,8 @@ fn push(piece: &[u8], out: &mut [u8]) -> usize
 fn format_hex_escape(byte: u8) -> [u8; 4]
     ensures { λ r. ⌜ r ≡ escape byte ⌝ }
 {
-    [b'\\', b'x', hex_digit(byte / 16), hex_digit(byte % 16)]
-}
-
-fn hex_digit(n: u8) -> u8
-    requires { ⌜ n < 16 ⌝ }
-    ensures { λ r. ⌜ r ≡ hexDigit n ⌝ }
-{
-    if n < 10 {
-        return b'0' + n;
-    }
-    b'A' + (n - 10)
+    let digits = hex_digits(byte);
+    [b'\\', b'x', digits[0], digits[1]]
 }
 
 pub struct ParsedEnergyBank {

@@ -1,7 +1,9 @@
-// Bytes stored into a slice that may be too short for them.
+// What is put out: bytes stored into a slice that may be too short for them, and a byte in hex digits.
 ghost use mathlib.Core.Path.{_≡_};
+ghost use Prim.Native.Nat.{_<_};
 ghost use lib.ListN.{set};
 ghost use lib.Seq.{sets};
+ghost use Rattle.records.specs.Text.{hexDigit, hexDigits};
 
 // Stores a byte at an index, where the slice has one.
 pub fn put(out: &mut [u8], at: usize, byte: u8)
@@ -28,4 +30,21 @@ pub fn put_all(out: &mut [u8], at: usize, bytes: &[u8])
         out[at + i] = bytes[i];
         i += 1;
     }
+}
+
+// A byte in two upper-case hex digits.
+pub fn hex_digits(byte: u8) -> [u8; 2]
+    ensures { λ r. ⌜ r ≡ hexDigits byte ⌝ }
+{
+    [hex_digit(byte / 16), hex_digit(byte % 16)]
+}
+
+fn hex_digit(n: u8) -> u8
+    requires { ⌜ n < 16 ⌝ }
+    ensures { λ r. ⌜ r ≡ hexDigit n ⌝ }
+{
+    if n < 10 {
+        return b'0' + n;
+    }
+    b'A' + (n - 10)
 }

@@ -9,7 +9,7 @@ use lib.ListN.{length}
 use Rattle.bank.specs.declared.refusal.Refusal.{Refusal}
 use Rattle.bank.specs.Refusal.{numberOf, checked}
 use Rattle.records.specs.declared.luminaire_write.Plan.{Plan}
-use Rattle.records.specs.Text.{hexDigit}
+use Rattle.records.specs.Text.{hexDigits}
 use Rattle.records.specs.Writes.{Store, flat}
 use Rattle.records.specs.Plan.{planChecks, storesOf}
 use Rattle.stores.specs.File.{parsed, textIn}
@@ -30,8 +30,7 @@ counted word n = word ++ (decimal n ++ 0x0A ∷ [])
 
 -- "offset and value in two upper-case hex digits each"
 abbrev pub line : ℕ → ℕ → List ℕ
-line offset value =
-    hexDigit (offset / 16) ∷ hexDigit (offset % 16) ∷ 0x20 ∷ hexDigit (value / 16) ∷ hexDigit (value % 16) ∷ 0x0A ∷ []
+line offset value = hexDigits offset ++ (0x20 ∷ hexDigits value ++ (0x0A ∷ []))
 
 -- `stores` and a space
 abbrev pub storesWord : List ℕ

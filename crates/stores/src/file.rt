@@ -4,6 +4,7 @@ use bank::OptionBool;
 use bank::OptionU16;
 use bank::OptionUsize;
 use bus::OptionU8;
+use bus::number_of;
 use records::LuminaireNumbers;
 use records::Plan;
 ghost use mathlib.Core.Path.{_≡_};
@@ -31,13 +32,7 @@ fn number_at(file: &[u8], at: usize, len: usize) -> u32
     ensures value { λ r. ⌜ r ≡ number (take len (drop at (now (file .entry)))) ⌝ }
     ensures small { λ r. ⌜ r < 2 ^ (8 * len) ⌝ }
 {
-    let mut n = 0;
-    let mut i = 0;
-    while i < len {
-        n = n * 256 + file[at + i] as u32;
-        i += 1;
-    }
-    n
+    number_of(&file[at..at + len]) as u32
 }
 
 fn is_marked(file: &[u8]) -> bool

@@ -5,6 +5,7 @@ use crate::file::parse;
 use bank::Refusal;
 use records::Plan;
 use records::ResultUsize;
+use records::output::hex_digits;
 use records::output::put;
 use records::output::put_all;
 ghost use mathlib.Core.Path.{_≡_};
@@ -12,7 +13,6 @@ ghost use Prim.Native.Nat.{_+_, _≤_, _<_};
 ghost use lib.ListN.{length};
 ghost use lib.Seq.{sets};
 ghost use Rattle.bus.specs.Value.{laidInto};
-ghost use Rattle.records.specs.Text.{hexDigit};
 ghost use Rattle.stores.specs.Listing.{digit, decimal, counted, line, refusedText, planText, printed};
 ghost use Rattle.stores.specs.Steps.{lines};
 
@@ -65,25 +65,13 @@ fn put_counted(out: &mut [u8], word: &[u8], n: usize) -> usize
     end + 1
 }
 
-fn hex_digit(n: u8) -> u8
-    requires { ⌜ n < 16 ⌝ }
-    ensures { λ r. ⌜ r ≡ hexDigit n ⌝ }
-{
-    if n < 10 { b'0' + n } else { b'A' + (n - 10) }
-}
-
 // The line of a store.
 fn line_of(offset: u8, value: u8) -> [u8; 6]
     ensures { λ r. ⌜ r ≡ line offset value ⌝ }
 {
-    [
-        hex_digit(offset / 16),
-        hex_digit(offset % 16),
-        b' ',
-        hex_digit(value / 16),
-        hex_digit(value % 16),
-        b'\n',
-    ]
+    let o = hex_digits(offset);
+    let v = hex_digits(value);
+    [o[0], o[1], b' ', v[0], v[1], b'\n']
 }
 
 // Puts a line for each store at an index, and answers the index behind them.

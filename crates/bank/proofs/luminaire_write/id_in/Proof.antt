@@ -1,20 +1,14 @@
 -- `bank::luminaire_write::id_in` meets its contract: its two bytes make the id.
 -- Assumes nothing.
-use mathlib.Core.Path.{ap, sym}
-use Prim.Native.Nat.{_<_}
+use mathlib.Core.Path.{ap, sym, _∙_}
 use native.Mathlib.Omega.{arith}
 use borrow.Author.Needs.{needs}
-use lib.ListN.{getD}
+use Rattle.bus.proofs.Number.{number-part, part-below}
+use Rattle.bank.specs.declared.OptionU16.{OptionU16}
 use Rattle.bank.specs.Options.{optionU16}
 use Rattle.bank.proofs.Header.{no-id, id}
 use Rattle.bank.proofs.luminaire_write.id_in.Statement.{statement}
 use Rattle.bank.proofs.luminaire_write.id_in.Tie as tie
-
-high : (c : tie.After-shared-slice-known) → getD (c .before .before .args .header .now) 17 0 < 256
-high c = omega (arith, c .shared-slice-known .given 17)
-
-low : (c : tie.After-shared-slice-known2) → getD (c .before .before .before .args .header .now) 18 0 < 256
-low c = omega (arith, c .shared-slice-known2 .given 18)
 
 cast-at : tie.Need-cast-at
 cast-at c = search needs
@@ -23,31 +17,30 @@ add-if1 : tie.Need-add-if1
 add-if1 c = search needs
 
 returns : tie.Need-returns
-returns c = ap optionU16 (sym (no-id (c .before .args .header .now) (omega arith)))
+returns c = ap optionU16 (sym (no-id (c .before .before .args .header .now) (omega arith)))
 
-shared-slice-read-t7 : tie.Need-shared-slice-read-t7
-shared-slice-read-t7 c = search needs
+add-number-of : tie.Need-add-number-of
+add-number-of c = search needs
 
-cast-t8 : tie.Need-cast-t8
-cast-t8 c = omega (arith, high c)
+sub-number-of : tie.Need-sub-number-of
+sub-number-of c = search needs
 
-mul-t9 : tie.Need-mul-t9
-mul-t9 c = omega (arith, high c)
+part-number-of-start : tie.Need-part-number-of-start
+part-number-of-start c = search needs
 
-add-t3 : tie.Need-add-t3
-add-t3 c = search needs
+part-number-of-end : tie.Need-part-number-of-end
+part-number-of-end c = search needs
 
-shared-slice-read-t11 : tie.Need-shared-slice-read-t11
-shared-slice-read-t11 c = search needs
+number-of-requires : tie.Need-number-of-requires
+number-of-requires c κs = search needs
 
-cast-t12 : tie.Need-cast-t12
-cast-t12 c = omega (arith, low c)
-
-add-t13 : tie.Need-add-t13
-add-t13 c = omega (arith, high (c .before), low c)
+cast-t10 : tie.Need-cast-t10
+cast-t10 c = omega (arith, part-below (c .before .before .before .before .args .header .now) 17 2 (c .number-of .ensures .1))
 
 returns-2 : tie.Need-returns-2
-returns-2 c = ap optionU16 (sym (id (c .before .before .before .args .header .now) (omega arith)))
+returns-2 c =
+    let h = c .before .before .before .before .args .header .now in
+    ap OptionU16.Some (c .number-of .ensures .0 ∙ number-part h 17 2 (omega arith)) ∙ ap optionU16 (sym (id h (omega arith)))
 
 pub id-in-spec : {M : Type 1} → statement M
 id-in-spec =
@@ -56,11 +49,10 @@ id-in-spec =
     cast-at
     add-if1
     returns
-    shared-slice-read-t7
-    cast-t8
-    mul-t9
-    add-t3
-    shared-slice-read-t11
-    cast-t12
-    add-t13
+    add-number-of
+    sub-number-of
+    part-number-of-start
+    part-number-of-end
+    number-of-requires
+    cast-t10
     returns-2)

@@ -7,7 +7,7 @@ use borrow.Author.Tests.{not-true, not-false}
 use borrow.Author.Needs.{needs}
 use lib.ListN.{take, drop}
 use Rattle.bus.specs.declared.OptionU64.{OptionU64}
-use Rattle.bus.specs.Number.{number}
+use Rattle.bus.proofs.Number.{number-part}
 use Rattle.records.specs.Places.{allFF}
 use Rattle.records.proofs.Places.{There, is-there, not-there}
 use Rattle.records.proofs.memory_bank_parser.parse_be_u64.Statement.{statement}
@@ -66,7 +66,7 @@ returns-3 c =
     let a = c .before .before .before .before .before .before .before .args in
     let o = a .start - a .start-offset in
     rw (t .is, masked (c .before .before) ∙ c .before .if2 .left)
-    (ap OptionU64.Some (c .number-of .ensures ∙ ap (λ (k : ℕ). number (take k (drop o (a .bytes .now)))) (sym (long o (a .len)))))
+    (ap OptionU64.Some (c .number-of .ensures .0 ∙ number-part (a .bytes .now) o (a .len) (omega arith)))
 
 pub parse-be-u64-spec : {M : Type 1} → statement M
 parse-be-u64-spec =

@@ -8,6 +8,7 @@ use borrow.Author.Tests.{ne-eqb}
 use borrow.Author.Needs.{needs}
 use lib.ListN.{length-take, length-drop}
 use denote.Ref.{now}
+use Rattle.bus.proofs.Number.{number-few}
 use Rattle.records.specs.Places.{allFF, unlessFF}
 use Rattle.records.specs.Identity.{identityOf, knownIf, ofWindow}
 use Rattle.records.proofs.Window.{in-window, one-byte}
@@ -63,10 +64,10 @@ returns-2 c =
     (c .if2 .came)
 
 number-of-requires : tie.Need-number-of-requires
-number-of-requires c κs = rw (c .before .before .before .before .before .before .before .before .within .ensures, length-take) (omega arith)
+number-of-requires c κs = search needs
 
 number-of-requires-2 : tie.Need-number-of-requires-2
-number-of-requires-2 c κs = rw (c .before .before .before .before .before .before .before .before .within2 .ensures, length-take) (omega arith)
+number-of-requires-2 c κs = search needs
 
 shared-slice-read-t14 : tie.Need-shared-slice-read-t14
 shared-slice-read-t14 c =
@@ -80,6 +81,8 @@ returns-3 c =
     let mask-2 = mask-3 .before .before in
     let mask-1 = mask-2 .before .before in
     let w = now (start (mask-1 .before) .args .window) in
+    let gtin = number-few (now (mask-1 .before .before .before .within .result)) (rw (mask-1 .before .before .before .within .ensures, length-take) (omega arith)) in
+    let number = number-few (now (mask-1 .before .before .within2 .result)) (rw (mask-1 .before .before .within2 .ensures, length-take) (omega arith)) in
     let index = one-byte w 23 (omega arith) (mask-1 .before .within3 .ensures) in
     rw (
       parts (mask-1 .before),
@@ -87,7 +90,7 @@ returns-3 c =
       sym (mask-2 .is-mask2 .ensures) ∙ mask-3 .before .if3 .left,
       sym (mask-3 .is-mask3 .ensures) ∙ c .before .before .before .if4 .left,
     )
-    (rw (c .before .before .number-of .ensures, c .before .number-of2 .ensures, index))
+    (rw (c .before .before .number-of .ensures .0 ∙ gtin, c .before .number-of2 .ensures .0 ∙ number, index))
 
 pub of-window-spec : {M : Type 1} → statement M
 of-window-spec =

@@ -1,9 +1,9 @@
--- `records::memory_bank_parser::hex_digit` meets its contract.
+-- `records::output::hex_digit` meets its contract.
 -- Assumes nothing.
 use borrow.Author.Tests.{lt-ltb, le-ltb}
 use borrow.Author.Needs.{needs}
-use Rattle.records.proofs.memory_bank_parser.hex_digit.Statement.{statement}
-use Rattle.records.proofs.memory_bank_parser.hex_digit.Tie as tie
+use Rattle.records.proofs.output.hex_digit.Statement.{statement}
+use Rattle.records.proofs.output.hex_digit.Tie as tie
 
 add-result : tie.Need-add-result
 add-result c = search needs
