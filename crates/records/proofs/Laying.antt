@@ -1,12 +1,12 @@
 -- Laws of bytes laid one behind the other into a slice, as far as it goes.
 -- Assumes nothing.
 use mathlib.Core.Path.{_≡_, refl, sym, ap, _∙_}
-use mathlib.Core.List.{List, [], _∷_, _++_}
+use mathlib.Core.List.{List, [], _∷_, _++_, map}
 use Prim.Native.Nat.{ℕ, suc, _+_, _≤_, _<_}
 use native.Mathlib.Nat.{zero-add, add-zero, add-suc, suc-add}
 use native.Mathlib.Numerals.{add-one}
 use native.Mathlib.Omega.{arith}
-use lib.ListN.{length, take, drop, set, getD, length-set, take-append-drop}
+use lib.ListN.{length, take, drop, set, getD, length-set, length-map, take-append-drop}
 use lib.Seq.{sets, set-out, length-sets, take-nil, take-suc, take-at, length-take-le}
 use Rattle.bus.specs.Value.{laidInto}
 use Rattle.bus.proofs.Lists.{laid-whole}
@@ -49,6 +49,20 @@ module _ {A : Type 0} where
 
   pub fill-more : (l xs : List A) (x : A) → set (sets l 0 xs) (length xs) x ≡ sets l 0 (xs ++ (x ∷ []))
   fill-more l xs x = ap (λ (n : ℕ). set (sets l 0 xs) n x) (sym (zero-add (length xs))) ∙ sym (sets-append l 0 xs (x ∷ []))
+
+map-append : {A B : Type 0} (f : A → B) (xs ys : List A) → map f (xs ++ ys) ≡ map f xs ++ map f ys
+map-append f [] ys = refl
+map-append f (x ∷ xs) ys = ap (λ r. f x ∷ r) (map-append f xs ys)
+
+-- further elements behind those that are laid
+module _ (l : List ℕ) (at : ℕ) {l′ l″ : List ℕ} {n : ℕ} where
+  pub laid-behind : (xs ys : List ℕ) → n ≡ at + length xs → l′ ≡ sets l at xs → l″ ≡ sets l′ n ys → l″ ≡ sets l at (xs ++ ys)
+  laid-behind xs ys e a b = b ∙ ap (λ (r : List ℕ). sets r n ys) a ∙ ap (λ (k : ℕ). sets (sets l at xs) k ys) e ∙ sym (sets-append l at xs ys)
+
+  -- a member of each
+  pub members-behind : {A : Type 0} (f : A → ℕ) (xs ys : List A) → n ≡ at + length xs → l′ ≡ sets l at (map f xs) → l″ ≡ sets l′ n (map f ys) → l″ ≡ sets l at (map f (xs ++ ys))
+  members-behind f xs ys e a b =
+      laid-behind (map f xs) (map f ys) (e ∙ ap (λ (k : ℕ). at + k) (sym (length-map xs f))) a b ∙ ap (sets l at) (sym (map-append f xs ys))
 
 pub sets-laid : (xs out : List ℕ) → sets out 0 xs ≡ laidInto xs out
 sets-laid [] out = rw take-nil

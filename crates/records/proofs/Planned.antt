@@ -3,7 +3,7 @@
 use mathlib.Core.Path.{_≡_, refl, sym, ap, _∙_, subst}
 use mathlib.Core.List.{List, [], _∷_, _++_, append-nil}
 use mathlib.Core.Option.{Option, none, some}
-use Prim.Native.Nat.{ℕ, suc, _+_, _*_, _≤_, _<_}
+use Prim.Native.Nat.{ℕ, _+_, _*_, _≤_, _<_}
 use native.Mathlib.Nat.{zero-add, add-zero}
 use native.Mathlib.Numerals.{add-one}
 use native.Mathlib.Omega.{arith}
@@ -16,26 +16,10 @@ use Rattle.records.specs.declared.luminaire_write.LuminaireNumbers.{Lumi
 use Rattle.records.specs.declared.luminaire_write.WriteCounts.{WriteCounts}
 use Rattle.records.specs.Writes.{Write, bytesFor, written, writesAt, plannedWrites, indices, lengths, allBytes, gather}
 use Rattle.records.specs.Steps.{countsWith}
-use Rattle.records.proofs.Laying.{sets-append}
+use Rattle.records.proofs.Laying.{laid-behind, members-behind}
 use Rattle.records.proofs.Gathering.{flat-append, gather-next}
 use Rattle.records.proofs.Table.{table-length, table-within}
 use Rattle.records.proofs.Stages.{bytes-fit}
-
-indices-append : (xs ys : List Write) → indices (xs ++ ys) ≡ indices xs ++ indices ys
-indices-append [] ys = refl
-indices-append (x ∷ xs) ys = ap (λ (r : List ℕ). x .index ∷ r) (indices-append xs ys)
-
-lengths-append : (xs ys : List Write) → lengths (xs ++ ys) ≡ lengths xs ++ lengths ys
-lengths-append [] ys = refl
-lengths-append (x ∷ xs) ys = ap (λ (r : List ℕ). length (x .bytes) ∷ r) (lengths-append xs ys)
-
-indices-count : (ws : List Write) → length (indices ws) ≡ length ws
-indices-count [] = refl
-indices-count (w ∷ ws) = ap suc (indices-count ws)
-
-lengths-count : (ws : List Write) → length (lengths ws) ≡ length ws
-lengths-count [] = refl
-lengths-count (w ∷ ws) = ap suc (lengths-count ws)
 
 -- the writes in the slices, and how many there are
 pub record Planned (fs ls bs : List ℕ) (ws : List Write) (fs′ ls′ bs′ : List ℕ) (n : WriteCounts) : Type 0 where
@@ -54,20 +38,16 @@ Further fs ls bs n ws fs′ ls′ bs′ n′ =
     (n′ ≡ countsWith n ws)
     × ((fs′ ≡ sets fs (n .writes) (indices ws)) × ((ls′ ≡ sets ls (n .writes) (lengths ws)) × (bs′ ≡ sets bs (n .bytes) (allBytes ws))))
 
--- elements behind those that are laid from the first index on
-behind : (l l′ l″ xs ys : List ℕ) (n : ℕ) → n ≡ length xs → l′ ≡ sets l 0 xs → l″ ≡ sets l′ n ys → l″ ≡ sets l 0 (xs ++ ys)
-behind l l′ l″ xs ys n e a b =
-    b ∙ ap (λ (r : List ℕ). sets r n ys) a ∙ ap (λ (k : ℕ). sets (sets l 0 xs) k ys) (e ∙ sym (zero-add (length xs))) ∙ sym (sets-append l 0 xs ys)
-
 module _ {fs ls bs fs′ ls′ bs′ fs″ ls″ bs″ : List ℕ} {n n′ : WriteCounts} where
   further : {ws : List Write} (vs : List Write) → Planned fs ls bs ws fs′ ls′ bs′ n → Further fs′ ls′ bs′ n vs fs″ ls″ bs″ n′ → Planned fs ls bs (ws ++ vs) fs″ ls″ bs″ n′
   further {ws} vs a b =
+      let at-writes : n .writes ≡ 0 + length ws = a .writes ∙ sym (zero-add (length ws)) in
       record {
         writes = ap (λ (c : WriteCounts). c .writes) (b .0) ∙ rw (a .writes, length-append ws vs);
         count = ap (λ (c : WriteCounts). c .bytes) (b .0) ∙ rw (a .count, flat-append (λ (w : Write). w .bytes) ws vs, length-append (allBytes ws) (allBytes vs));
-        fields = rw (indices-append ws vs) (behind fs fs′ fs″ (indices ws) (indices vs) (n .writes) (a .writes ∙ sym (indices-count ws)) (a .fields) (b .1 .0));
-        lens = rw (lengths-append ws vs) (behind ls ls′ ls″ (lengths ws) (lengths vs) (n .writes) (a .writes ∙ sym (lengths-count ws)) (a .lens) (b .1 .1 .0));
-        bytes = rw (flat-append (λ (w : Write). w .bytes) ws vs) (behind bs bs′ bs″ (allBytes ws) (allBytes vs) (n .bytes) (a .count) (a .bytes) (b .1 .1 .1));
+        fields = members-behind fs 0 (λ (w : Write). w .index) ws vs at-writes (a .fields) (b .1 .0);
+        lens = members-behind ls 0 (λ (w : Write). length (w .bytes)) ws vs at-writes (a .lens) (b .1 .1 .0);
+        bytes = rw (flat-append (λ (w : Write). w .bytes) ws vs) (laid-behind bs 0 (allBytes ws) (allBytes vs) (a .count ∙ sym (zero-add (length (allBytes ws)))) (a .bytes) (b .1 .1 .1));
       }
 
   module _ (m : LuminaireNumbers) (which : OptionUsize) (text : List ℕ) (t : List LuminaireField) (e : t ≡ luminaireFields) (i : ℕ) (d : LuminaireField) (h : i < 18) where

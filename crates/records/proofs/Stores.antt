@@ -7,21 +7,20 @@ use Prim.Native.Nat.{ℕ, zero, suc, _+_, _*_, _≤_, _<_}
 use native.Mathlib.Nat.{add-zero, add-suc, suc-add, le-of-suc-le-suc, not-suc-le-zero}
 use native.Mathlib.Numerals.{add-one}
 use native.Mathlib.Omega.{arith}
-use lib.ListN.{length, take, getD, getElem?, length-append}
+use lib.ListN.{length, take, getD, getElem?, length-append, length-map}
 use lib.Seq.{sets, length-sets}
 use Rattle.bank.specs.declared.OptionUsize.{OptionUsize}
 use Rattle.bank.specs.declared.luminaire_write.LuminaireField.{LuminaireField}
 use Rattle.bank.specs.Fields.{luminaireFields}
 use Rattle.records.specs.declared.luminaire_write.LuminaireNumbers.{LuminaireNumbers}
 use Rattle.records.specs.Writes.{gather, storesAt, Store, singleBytes, offsetsOf, valuesOf, flat}
-use Rattle.records.proofs.Laying.{sets-append}
+use Rattle.records.proofs.Laying.{members-behind}
 use Rattle.records.proofs.Gathering.{flat-next, flat-done, gather-next}
 use Rattle.records.proofs.Table.{table-length, table-within}
 use Rattle.records.proofs.Stages.{single-count, stores-few}
 
 pub offsets-length : (o : ℕ) (bs : List ℕ) → length (offsetsOf (singleBytes o bs)) ≡ length bs
-offsets-length o [] = refl
-offsets-length o (b ∷ bs) = ap suc (offsets-length (suc o) bs)
+offsets-length o bs = length-map (singleBytes o bs) (λ (s : Store). s .offset) ∙ single-count o bs
 
 pub offsets-at : (o : ℕ) (bs : List ℕ) (i : ℕ) → i < length bs → getD (offsetsOf (singleBytes o bs)) i 0 ≡ o + i
 offsets-at o [] i h = absurd (not-suc-le-zero h)
@@ -32,28 +31,11 @@ pub values-are : (o : ℕ) (bs : List ℕ) → valuesOf (singleBytes o bs) ≡ b
 values-are o [] = refl
 values-are o (b ∷ bs) = ap (λ (r : List ℕ). b ∷ r) (values-are (suc o) bs)
 
--- of two lists of stores
-pub offsets-append : (xs ys : List Store) → offsetsOf (xs ++ ys) ≡ offsetsOf xs ++ offsetsOf ys
-offsets-append [] ys = refl
-offsets-append (x ∷ xs) ys = ap (λ (r : List ℕ). x .offset ∷ r) (offsets-append xs ys)
-
-pub values-append : (xs ys : List Store) → valuesOf (xs ++ ys) ≡ valuesOf xs ++ valuesOf ys
-values-append [] ys = refl
-values-append (x ∷ xs) ys = ap (λ (r : List ℕ). x .value ∷ r) (values-append xs ys)
-
 -- stores laid behind the first so many into two slices, and how many there are then
 pub record Laid (os vs : List ℕ) (n : ℕ) (ss : List Store) (os′ vs′ : List ℕ) (n′ : ℕ) : Type 0 where
   pub count : n′ ≡ n + length ss
   pub offsets : os′ ≡ sets os n (offsetsOf ss)
   pub values : vs′ ≡ sets vs n (valuesOf ss)
-
-pub offsets-count : (ss : List Store) → length (offsetsOf ss) ≡ length ss
-offsets-count [] = refl
-offsets-count (s ∷ ss) = ap suc (offsets-count ss)
-
-pub values-count : (ss : List Store) → length (valuesOf ss) ≡ length ss
-values-count [] = refl
-values-count (s ∷ ss) = ap suc (values-count ss)
 
 module _ {os vs : List ℕ} {n : ℕ} where
   pub none-laid : Laid os vs n [] os vs n
@@ -61,13 +43,11 @@ module _ {os vs : List ℕ} {n : ℕ} where
 
   -- further stores
   pub laid-further : {ss ts : List Store} {os′ vs′ os″ vs″ : List ℕ} {n′ n″ : ℕ} → Laid os vs n ss os′ vs′ n′ → Laid os′ vs′ n′ ts os″ vs″ n″ → Laid os vs n (ss ++ ts) os″ vs″ n″
-  laid-further {ss} {ts} {os′} {vs′} {os″} {vs″} {n′} {n″} a b =
-      let at-offsets : n′ ≡ n + length (offsetsOf ss) = a .count ∙ ap (λ (k : ℕ). n + k) (sym (offsets-count ss)) in
-      let at-values : n′ ≡ n + length (valuesOf ss) = a .count ∙ ap (λ (k : ℕ). n + k) (sym (values-count ss)) in
+  laid-further {ss} {ts} a b =
       record {
         count = rw length-append (omega (arith, a .count, b .count));
-        offsets = b .offsets ∙ ap (λ (l : List ℕ). sets l n′ (offsetsOf ts)) (a .offsets) ∙ ap (λ (k : ℕ). sets (sets os n (offsetsOf ss)) k (offsetsOf ts)) at-offsets ∙ sym (sets-append os n (offsetsOf ss) (offsetsOf ts)) ∙ ap (sets os n) (sym (offsets-append ss ts));
-        values = b .values ∙ ap (λ (l : List ℕ). sets l n′ (valuesOf ts)) (a .values) ∙ ap (λ (k : ℕ). sets (sets vs n (valuesOf ss)) k (valuesOf ts)) at-values ∙ sym (sets-append vs n (valuesOf ss) (valuesOf ts)) ∙ ap (sets vs n) (sym (values-append ss ts));
+        offsets = members-behind os n (λ (s : Store). s .offset) ss ts (a .count) (a .offsets) (b .offsets);
+        values = members-behind vs n (λ (s : Store). s .value) ss ts (a .count) (a .values) (b .values);
       }
 
   pub laid-same : {ss ts : List Store} {os′ vs′ : List ℕ} {n′ : ℕ} → ss ≡ ts → Laid os vs n ss os′ vs′ n′ → Laid os vs n ts os′ vs′ n′

@@ -6,7 +6,7 @@ use mathlib.Core.Option.{Option, none, some}
 use Prim.Native.Nat.{ℕ, suc, _+_, _-_, _*_, _≤_}
 use native.Mathlib.Omega.{arith}
 use lib.Dec.{lit≤}
-use lib.ListN.{length, take, drop, length-append, length-take}
+use lib.ListN.{length, take, drop, length-append, length-take, length-map}
 use lib.Seq.{sets}
 use Rattle.bus.specs.Value.{laidInto}
 use Rattle.bus.proofs.Lists.{no-element}
@@ -26,13 +26,19 @@ use Rattle.records.specs.Plan.{planChecks, storesOf, planned, offsetsAfter, val
 use Rattle.records.proofs.Laying.{sets-laid, front-laid}
 use Rattle.records.proofs.Table.{all-stores}
 use Rattle.records.proofs.Stages.{some-same, stores-few}
-use Rattle.records.proofs.Stores.{offsets-count, values-count}
 use Rattle.records.proofs.Plans.{plan-refused, plan-accepted}
 use Rattle.stores.specs.File.{isGood, textIn, planIn, parsed}
 use Rattle.stores.specs.Listing.{counted, line, storesWord, refusedWord, badFile, storesText, refusedText, planText, printed}
 use Rattle.stores.specs.Steps.{lines}
 use Rattle.stores.proofs.Heads.{text-is}
 use Rattle.stores.proofs.Lines.{decimal-short, counted-length, two-laid, lines-length, lines-of}
+
+-- as many offsets as stores, and as many values
+offsets-count : (ss : List Store) → length (offsetsOf ss) ≡ length ss
+offsets-count ss = length-map ss (λ (s : Store). s .offset)
+
+values-count : (ss : List Store) → length (valuesOf ss) ≡ length ss
+values-count ss = length-map ss (λ (s : Store). s .value)
 
 -- so many stores at most
 abbrev mostOf : List LuminaireField → ℕ
