@@ -94,6 +94,10 @@ laid-whole xs out h = rw (take-all (length out) xs h)
 pub length-laid : (xs out : List ℕ) → length (laidInto xs out) ≡ length out
 length-laid xs out = rw (length-append, length-take, length-drop) (omega arith)
 
+-- so a slice that they are laid into keeps its length
+pub laid-keeps : (xs out : List ℕ) {behind : List ℕ} → behind ≡ laidInto xs out → length behind ≡ length out
+laid-keeps xs out e = ap length e ∙ length-laid xs out
+
 -- one element more: it is laid where there is room
 pub laid-more : (xs out : List ℕ) (x : ℕ) → set (laidInto xs out) (length xs) x ≡ laidInto (xs ++ (x ∷ [])) out
 laid-more xs out x =

@@ -1,6 +1,6 @@
 -- Laws of what a plan answers, and of what it leaves in the slices that it is lent.
 -- Assumes nothing.
-use mathlib.Core.Path.{_≡_, _∙_}
+use mathlib.Core.Path.{_≡_, ap, _∙_}
 use mathlib.Core.Bool.{true, _||_}
 use mathlib.Core.List.{List, [], _∷_}
 use mathlib.Core.Option.{none, some}
@@ -46,8 +46,10 @@ module _ (p : Plan) (text os vs : List ℕ) where
     pub values-short : length (storesOf p text) ≤ length os → length vs < length (storesOf p text) → Answered (Err SliceTooShort) os vs
     values-short k h = short (rw (le-ltb (length os) (length (storesOf p text)) k) (lt-ltb (length vs) (length (storesOf p text)) h))
 
-    pub plan-accepted : length (storesOf p text) ≤ length os → length (storesOf p text) ≤ length vs → Answered (Ok (length (storesOf p text))) (laidInto (offsetsOf (storesOf p text)) os) (laidInto (valuesOf (storesOf p text)) vs)
+    pub plan-accepted : {n : ℕ} {os′ vs′ : List ℕ} → length (storesOf p text) ≤ length os → length (storesOf p text) ≤ length vs
+        → n ≡ length (storesOf p text) → os′ ≡ laidInto (offsetsOf (storesOf p text)) os → vs′ ≡ laidInto (valuesOf (storesOf p text)) vs
+        → Answered (Ok n) os′ vs′
     unfolding planned offsetsAfter valuesAfter
-    plan-accepted k l =
+    plan-accepted k l a b d =
         let e : firstOf (layChecks p text os vs) ≡ none = last ∙ alone-passed SliceTooShort (rw (le-ltb (length os) (length (storesOf p text)) k) (le-ltb (length vs) (length (storesOf p text)) l)) in
-        (rw e, (rw e, rw e))
+        (rw e (ap Ok a), (rw e b, rw e d))

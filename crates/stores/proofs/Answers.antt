@@ -93,7 +93,7 @@ module _ (p : Plan) (text os vs : List ℕ) (room-os : 203 ≤ length os) (room-
       go (some r) s = no-element (ap countIn (plan-refused p text os vs s .0 ∙ sym a ∙ t))
       go none s =
           let ss = storesOf p text in
-          let done = plan-accepted p text os vs s (omega (arith, few, room-os)) (omega (arith, few, room-vs)) in
+          let done = plan-accepted p text os vs s (omega (arith, few, room-os)) (omega (arith, few, room-vs)) refl refl refl in
           let same : n ≡ length ss = some-same (ap countIn (sym t ∙ a ∙ sym (done .0))) in
           record {
             sound = s;
@@ -108,7 +108,7 @@ module _ (p : Plan) (text os vs : List ℕ) (room-os : 203 ≤ length os) (room-
       go : (o : Option Refusal) → firstOf (planChecks p text) ≡ o → firstOf (planChecks p text) ≡ some r
       go (some q) s = s ∙ ap refusalIn (plan-refused p text os vs s .0 ∙ sym a ∙ t)
       go none s =
-          let done = plan-accepted p text os vs s (omega (arith, few, room-os)) (omega (arith, few, room-vs)) in
+          let done = plan-accepted p text os vs s (omega (arith, few, room-os)) (omega (arith, few, room-vs)) refl refl refl in
           no-element (ap refusalIn (done .0 ∙ sym a ∙ t))
 
 module _ (p : Plan) (text : List ℕ) where

@@ -1,12 +1,12 @@
 -- `stores::main` asks for no more than it may: what is printed fits into its buffer.
 -- Assumes nothing.
-use mathlib.Core.Path.{sym, ap, _∙_}
+use mathlib.Core.Path.{sym}
 use Prim.Native.Nat.{_≤_}
 use native.Mathlib.Omega.{arith}
 use borrow.Author.Needs.{needs}
 use lib.ListN.{length, take}
 use lib.Seq.{length-take-le}
-use Rattle.bus.proofs.Lists.{length-laid}
+use Rattle.bus.proofs.Lists.{laid-keeps}
 use Rattle.stores.specs.Listing.{printed}
 use Rattle.stores.proofs.Answers.{printed-short}
 use Rattle.stores.proofs.main.Statement.{statement}
@@ -19,7 +19,7 @@ fits c =
     let b = w .before .before .before in
     let r = b .before .before .read-full in
     let file = take (r .result) (r .last .1 .0) in
-    omega (arith, w .answer .ensures .0, printed-short file, ap length (w .answer .ensures .1) ∙ length-laid (printed file) (b .buffer2 .result), b .buffer2 .ensures)
+    omega (arith, w .answer .ensures .0, printed-short file, laid-keeps (printed file) (b .buffer2 .result) (w .answer .ensures .1), b .buffer2 .ensures)
 
 buffer-requires : tie.Need-buffer-requires
 buffer-requires c κs = search needs

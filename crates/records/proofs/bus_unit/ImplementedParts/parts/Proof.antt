@@ -10,7 +10,7 @@ use borrow.Author.Tests.{not-true, not-false}
 use borrow.Author.Needs.{needs}
 use lib.ListN.{length}
 use Rattle.bus.specs.Value.{laidInto}
-use Rattle.bus.proofs.Lists.{length-laid}
+use Rattle.bus.proofs.Lists.{laid-keeps}
 use Rattle.records.specs.BusUnit.{partsOf}
 use Rattle.records.proofs.Parts.{below, Stored, set-bit, clear-bit, no-part, nothing-stored, all-bits}
 use Rattle.records.proofs.bus_unit.ImplementedParts.parts.Statement.{statement}
@@ -71,7 +71,7 @@ same-length : tie.Need-same-length Inv-loop μ-loop
 same-length c =
     let l = c .before in
     let a = l .before .before .before .before .args in
-    ap length (l .loop .inv .1 .laid) ∙ length-laid (below (a .self .0) (l .loop .bit)) (a .out .now)
+    laid-keeps (below (a .self .0) (l .loop .bit)) (a .out .now) (l .loop .inv .1 .laid)
 
 returns-2 : tie.Need-returns-2 Inv-loop μ-loop
 returns-2 c =

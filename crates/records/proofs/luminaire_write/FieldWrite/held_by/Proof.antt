@@ -2,9 +2,10 @@
 -- Assumes nothing.
 use mathlib.Core.Path.{_≡_, sym, _∙_}
 use mathlib.Core.Option.{some}
+use Prim.Native.Nat.{_-_}
 use native.Mathlib.Omega.{arith}
 use borrow.Author.Needs.{needs}
-use lib.ListN.{length-take, length-drop}
+use lib.ListN.{drop, length-take, length-drop}
 use lib.Seq.{length-take-le}
 use Rattle.bank.proofs.Options.{told-index}
 use Rattle.records.specs.Writes.{endOf}
@@ -72,7 +73,9 @@ is-same-requires c κs =
     let i = c .before .before .before .before .before .before in
     let a = i .before .before .before .before .before .args in
     let w = starts-within (a .self) (a .bytes .now) (a .bank .now) (its-end i) in
-    rw (length-take, length-drop, length-take) (omega arith)
+    let end = i .end2 .given .0 .0 in
+    let start = end - a .self .len in
+    omega (arith, w, length-take (end - start) (drop start (a .bank .now)), length-drop start (a .bank .now), length-take (a .self .len) (a .bytes .now))
 
 returns-4 : tie.Need-returns-4
 returns-4 c =

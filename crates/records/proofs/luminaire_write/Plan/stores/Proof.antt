@@ -1,14 +1,12 @@
 -- `records::luminaire_write::Plan::stores` meets its contract: refused by a check, by a short slice, or laid.
 -- Assumes nothing.
-use mathlib.Core.Path.{_≡_, ap, _∙_}
+use mathlib.Core.Path.{_≡_}
 use mathlib.Core.Option.{none}
 use native.Mathlib.Omega.{arith}
 use borrow.Author.Needs.{needs}
-use lib.ListN.{length}
-use Rattle.bus.proofs.Lists.{length-laid}
+use Rattle.bus.proofs.Lists.{laid-keeps}
 use Rattle.bank.specs.Refusal.{firstOf}
 use Rattle.bank.proofs.Options.{told-refusal}
-use Rattle.records.specs.declared.ResultUsize.the-variants.{Ok}
 use Rattle.records.specs.Writes.{offsetsOf, valuesOf}
 use Rattle.records.specs.Plan.{planChecks, storesOf}
 use Rattle.records.proofs.Plans.{plan-refused, offsets-short, values-short, plan-accepted}
@@ -57,13 +55,13 @@ same-length : tie.Need-same-length
 same-length c =
     let l = c .before .before .before .before in
     let a = l .before .before .before .before .before .before .before .before .before .before .before .before .args in
-    ap length (l .lay-stores .ensures .1 .0) ∙ length-laid (offsetsOf (storesOf (a .self) (a .text .now))) (a .offsets .now)
+    laid-keeps (offsetsOf (storesOf (a .self) (a .text .now))) (a .offsets .now) (l .lay-stores .ensures .1 .0)
 
 same-length-2 : tie.Need-same-length-2
 same-length-2 c =
     let l = c .before .before .before .before in
     let a = l .before .before .before .before .before .before .before .before .before .before .before .before .args in
-    ap length (l .lay-stores .ensures .1 .1) ∙ length-laid (valuesOf (storesOf (a .self) (a .text .now))) (a .values .now)
+    laid-keeps (valuesOf (storesOf (a .self) (a .text .now))) (a .values .now) (l .lay-stores .ensures .1 .1)
 
 returns-4 : tie.Need-returns-4
 returns-4 c =
@@ -72,8 +70,7 @@ returns-4 c =
     let a = n .before .before .before .before .before .before .before .args in
     let few = n .store-count .ensures in
     let e = l .lay-stores .ensures in
-    let d = plan-accepted (a .self) (a .text .now) (a .offsets .now) (a .values .now) (sound (n .before)) (omega arith) (omega arith) in
-    (ap Ok (e .0) ∙ d .0, (e .1 .0 ∙ d .1 .0, e .1 .1 ∙ d .1 .1))
+    plan-accepted (a .self) (a .text .now) (a .offsets .now) (a .values .now) (sound (n .before)) (omega arith) (omega arith) (e .0) (e .1 .0) (e .1 .1)
 
 pub stores-spec : {M : Type 1} → statement M
 stores-spec =
