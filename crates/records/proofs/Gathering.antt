@@ -2,9 +2,9 @@
 -- Assumes nothing.
 use mathlib.Core.Path.{_≡_, refl, sym, ap, _∙_}
 use mathlib.Core.List.{List, [], _∷_, _++_, append-assoc, append-nil}
-use mathlib.Core.Option.{none, some}
+use mathlib.Core.Option.{none, some, Option·some-injective}
 use Prim.Native.Nat.{ℕ, zero, suc, _+_, _<_}
-use native.Mathlib.Nat.{le-of-suc-le-suc, not-suc-le-zero}
+use native.Mathlib.Nat.{le-of-suc-le-suc, not-suc-le-zero, suc-inj, suc-ne-zero}
 use lib.ListN.{length, take, getD, getElem?}
 use lib.Seq.{take-nil}
 use Rattle.bus.proofs.Lists.{no-element}
@@ -50,3 +50,18 @@ module _ {A : Type 0} where
         r .0,
         ap (λ (l : List A). g 0 f ++ l) (r .1) ∙ sym (append-assoc (g 0 f) (gather (λ i. g (suc i)) (take i fs)) (r .0)),
       )
+
+  -- where no field gives anything
+  pub gather-nothing : (g : ℕ → LuminaireField → List A) (fs : List LuminaireField) → ((i : ℕ) (h : LuminaireField) → getElem? fs i ≡ some h → g i h ≡ []) → gather g fs ≡ []
+  gather-nothing g [] e = refl
+  gather-nothing g (f ∷ fs) e = rw (e 0 f refl) (gather-nothing (λ i. g (suc i)) fs (λ i. e (suc i)))
+
+  -- where one field alone gives something
+  pub gather-only : (g : ℕ → LuminaireField → List A) (fs : List LuminaireField) (p : ℕ) {f : LuminaireField} → getElem? fs p ≡ some f
+      → ((i : ℕ) (h : LuminaireField) → (i ≡ p → ⊥) → getElem? fs i ≡ some h → g i h ≡ []) → gather g fs ≡ g p f
+  gather-only g [] p m e = no-element m
+  gather-only g (h ∷ fs) zero m e =
+      ap (λ (r : List A). g 0 h ++ r) (gather-nothing (λ i. g (suc i)) fs (λ i f. e (suc i) f (λ z. suc-ne-zero _ z)))
+      ∙ append-nil (g 0 h)
+      ∙ ap (g 0) (Option·some-injective _ _ m)
+  gather-only g (h ∷ fs) (suc p) m e = rw (e 0 h (λ z. suc-ne-zero _ (sym z)) refl) (gather-only (λ i. g (suc i)) fs p m (λ i f d. e (suc i) f (λ z. d (suc-inj z))))

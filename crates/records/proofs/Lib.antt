@@ -9,6 +9,7 @@ pub mod Order
 pub mod Planned
 pub mod Plans
 pub mod Numbers
+pub mod Wanted
 pub mod Held
 pub mod Places
 pub mod Records

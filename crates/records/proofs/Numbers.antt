@@ -3,7 +3,7 @@
 use mathlib.Core.Path.{_≡_, refl, sym, ap, _∙_}
 use mathlib.Core.Bool.{true, false, cond}
 use mathlib.Core.List.{List, [], _∷_}
-use mathlib.Core.Option.{none, some}
+use mathlib.Core.Option.{none, some, Option·some-injective}
 use Prim.Native.Nat.{ℕ, zero, suc, _+_, _/_, _%_, _^_, _≤_, _<_}
 use native.Mathlib.Nat.{zero-add, pow-suc, div-one, div-div-eq-div-mul}
 use native.Mathlib.Numerals.{add-one}
@@ -13,6 +13,8 @@ use lib.Count.{ones, onesIn, trailingZeros, ones-step}
 use lib.Dec.{ltb, lit≤}
 use lib.ListN.{length, getD, length-append}
 use lib.Pow.{shr-lt}
+use Rattle.bus.specs.Number.{number, lowBytes}
+use Rattle.bus.proofs.Number.{length-lowBytes, number-lowBytes}
 use Rattle.bus.proofs.Lists.{entry-in, entry-out}
 use Rattle.bus.proofs.Tests.{by-test}
 use Rattle.bank.specs.declared.OptionUsize.{OptionUsize}
@@ -21,7 +23,7 @@ use Rattle.bank.specs.declared.luminaire_write.FieldKind.the-variants.{LayoutId
 use Rattle.bank.specs.declared.luminaire_write.LuminaireField.{LuminaireField}
 use Rattle.bank.specs.Fields.{luminaireFields}
 use Rattle.records.specs.declared.luminaire_write.LuminaireNumbers.{LuminaireNumbers}
-use Rattle.records.specs.Writes.{Write, numberValues, bitPlace, isSet, numberFor, isFor, gather, writesAt, plannedWrites, ifNumber, numberWrites, EveryNumberHasItsBit, EveryWantedNumberPlanned}
+use Rattle.records.specs.Writes.{Write, numberValues, bitPlace, isSet, numberFor, isFor, gather, writesAt, plannedWrites, ifNumber, numberWrites, EveryNumberHasItsBit, EveryNumberKept, EveryWantedNumberPlanned}
 use Rattle.records.proofs.Gathering.{flat-gather}
 
 module _ (n : LuminaireNumbers) (patch : ℕ) where
@@ -39,6 +41,12 @@ module _ (n : LuminaireNumbers) (patch : ℕ) where
   pub number-set : isSet (n .«patch_mask») (bitPlace patch) ≡ true → bitPlace patch < 11 → some (getD (numberValues n) (bitPlace patch) 0) ≡ numberFor n patch
   unfolding numberFor
   number-set t h = rw t (entry-in (numberValues n) 11 (bitPlace patch) 0 h (lit≤ tt))
+
+pub every-number-kept : EveryNumberKept
+every-number-kept n f value bytes w e =
+    let same : some (lowBytes (f .len) value) ≡ some bytes = rw w at e in
+    let low : bytes ≡ lowBytes (f .len) value = sym (Option·some-injective _ _ same) in
+    (ap length low ∙ length-lowBytes (f .len) value, ap number low ∙ number-lowBytes (f .len) value)
 
 -- ---- how many numbers are planned
 

@@ -4,11 +4,11 @@ use mathlib.Core.Path.{_≡_}
 use mathlib.Core.Bool.{Bool, true, false, cond, _&&_}
 use mathlib.Core.List.{List, [], _∷_, _++_, map}
 use mathlib.Core.Option.{Option, none, some, Option·map}
-use Prim.Native.Nat.{ℕ, suc, _+_, _/_, _%_, _^_, _≤_, _<_}
+use Prim.Native.Nat.{ℕ, suc, _+_, _*_, _/_, _%_, _^_, _≤_, _<_}
 use lib.Count.{ones, trailingZeros}
 use lib.Dec.{eqb, leb}
 use lib.ListN.{length, take, drop, getElem?}
-use Rattle.bus.specs.Number.{lowBytes}
+use Rattle.bus.specs.Number.{number, lowBytes}
 use Rattle.bus.specs.Value.{bytesAt}
 use Rattle.bank.specs.declared.OptionUsize.{OptionUsize}
 use Rattle.bank.specs.declared.luminaire_write.FieldKind.{FieldKind}
@@ -240,6 +240,32 @@ abbrev pub EveryWantedNumberPlanned : Type 0
 EveryWantedNumberPlanned =
     (n : LuminaireNumbers) (which : OptionUsize) (text : List ℕ) →
     n .«patch_mask» ≤ 2047 → length (numberWrites (plannedWrites n which text)) ≡ ones (n .«patch_mask»)
+
+-- "it keeps the low bytes": as many as the field has, high byte first
+abbrev pub EveryNumberKept : Type 0
+EveryNumberKept =
+    (n : LuminaireNumbers) (f : LuminaireField) (value : ℕ) (bytes : List ℕ) →
+    wantedNumber n (f .kind) ≡ some value → numberBytes n f ≡ some bytes →
+    (length bytes ≡ f .len) × (number bytes ≡ value % 2 ^ (8 * f .len))
+
+-- the write of a text
+abbrev pub ifText : FieldKind → Write → List Write
+ifText LayoutId w = []
+ifText (Number patch r) w = []
+ifText (Text t) w = w ∷ []
+
+abbrev pub textWrites : List Write → List Write
+textWrites ws = flat (λ (w : Write). ifText (w .field .kind) w) ws
+
+-- "at most one text with its field index": the write of the text that is wanted, and of no other
+pub record TextPlanned (n : LuminaireNumbers) (text : List ℕ) : Type 0 where
+  pub wanted : (place : ℕ) (f : LuminaireField) → getElem? luminaireFields place ≡ some f → isTextKind (f .kind) ≡ true
+      → textWrites (plannedWrites n (OptionUsize.Some place) text) ≡ written place f (terminated f text) ∷ []
+  pub other : (which : OptionUsize) → ((place : ℕ) (f : LuminaireField) → getElem? luminaireFields place ≡ some f → isTextKind (f .kind) ≡ true → isFor which place ≡ false)
+      → textWrites (plannedWrites n which text) ≡ []
+
+abbrev pub EveryWantedTextPlanned : Type 0
+EveryWantedTextPlanned = (n : LuminaireNumbers) (text : List ℕ) → TextPlanned n text
 
 -- a property of each element
 abbrev pub Each : {A : Type 0} → (A → Type 0) → List A → Type 0
