@@ -18,13 +18,13 @@ use Rattle.bank.specs.Chunk.{ChunkRule, Bounded}
 use Rattle.bank.specs.ReadOut.{isDone, wantChecks, wantedLen, wanting, acceptChecks, accepting, bufferAfter, Valid, EveryReadOutDoneRight}
 use Rattle.bank.proofs.Reading.{valid-passes, refused, taken, every-chunk-taken-exactly, nothing-laid}
 
-no-bytes : (l : List ℕ) → length l ≤ 0 → l ≡ []
+pub no-bytes : (l : List ℕ) → length l ≤ 0 → l ≡ []
 no-bytes [] h = refl
 no-bytes (x ∷ l) h = let z : ⊥ = omega arith in absurd z
 
 module _ (chunk : ChunkRule) (rule : Bounded chunk) (r : ReadOut) (budget : ℕ) where
   -- a read-out that is done wants nothing
-  wants-none : r .next ≡ r .length → wantedLen chunk r budget ≤ 0
+  pub wants-none : r .next ≡ r .length → wantedLen chunk r budget ≤ 0
   wants-none h = omega (arith, rule .within (r .bank) (r .next) (r .length - r .next) budget)
 
   -- one that is not wants a chunk

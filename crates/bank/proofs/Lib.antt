@@ -8,3 +8,4 @@ pub mod Bounds
 pub mod Reading
 pub mod Done
 pub mod Calls
+pub mod Running

@@ -2,14 +2,20 @@
 -- any chunk rule that has the bounds.
 -- Assumes nothing.
 use mathlib.Core.Path.{_≡_}
+use mathlib.Core.Bool.{Bool, cond}
 use mathlib.Core.List.{List, [], _∷_, _++_, map}
-use Prim.Native.Nat.{ℕ, _+_, _-_, _≤_}
-use lib.ListN.{length}
+use Prim.Native.Nat.{ℕ, _+_, _≤_}
+use lib.Dec.{eqb}
+use lib.ListN.{length, take, drop}
+use Rattle.bank.specs.declared.refusal.Refusal.{Refusal}
+use Rattle.bank.specs.declared.call_list.Called.{Called}
 use Rattle.bank.specs.declared.read_out.ReadOut.{ReadOut}
 use Rattle.bank.specs.declared.read_out.ResultReadOut.{ResultReadOut}
 use Rattle.bank.specs.declared.read_out.ResultReadOut.the-variants.{Ok, Err}
-use Rattle.bank.specs.Chunk.{ChunkRule, Bounded}
-use Rattle.bank.specs.ReadOut.{laid, accepting, bufferAfter}
+use Rattle.bank.specs.declared.read_out.Wanted.{Wanted}
+use Rattle.bank.specs.Refusal.{numberOf}
+use Rattle.bank.specs.Chunk.{ChunkRule, Bounded, chunkLen}
+use Rattle.bank.specs.ReadOut.{laid, wanting, accepting, bufferAfter}
 
 -- "The calls are wanting with a budget, and accepting with a budget and a chunk."
 pub data Call : Type 0 where
@@ -20,6 +26,14 @@ pub data Call : Type 0 where
 pub record State : Type 0 where
   pub out : ReadOut
   pub buffer : List ℕ
+
+abbrev pub stateOf : ReadOut → List ℕ → State
+stateOf out buffer = record { out = out; buffer = buffer }
+
+-- what a call answers
+pub data Answer : Type 0 where
+  wanted : Wanted → Answer
+  handed : ResultReadOut → Answer
 
 -- the read-out that a call hands back, or the one it got
 abbrev handedBack : ResultReadOut → ReadOut → ReadOut
@@ -32,6 +46,11 @@ storedBy (Ok r) bytes = bytes ∷ []
 storedBy (Err e) bytes = []
 
 module _ (chunk : ChunkRule) where
+  -- "each call answers what "The read-out" above gives", refused calls included
+  abbrev pub answer : State → Call → Answer
+  answer s (want budget) = wanted (wanting chunk (s .out) budget)
+  answer s (accept budget bytes) = handed (accepting chunk (s .out) budget bytes (s .buffer))
+
   -- "each call gets the read-out last handed back, by starting or accepting"
   abbrev pub step : State → Call → State
   step s (want budget) = s
@@ -45,6 +64,10 @@ module _ (chunk : ChunkRule) where
   after s [] = s
   after s (c ∷ cs) = after (step s c) cs
 
+  abbrev pub answersOf : State → List Call → List Answer
+  answersOf s [] = []
+  answersOf s (c ∷ cs) = answer s c ∷ answersOf (step s c) cs
+
   abbrev pub taken : State → Call → List (List ℕ)
   taken s (want budget) = []
   taken s (accept budget bytes) = storedBy (accepting chunk (s .out) budget bytes (s .buffer)) bytes
@@ -53,6 +76,17 @@ module _ (chunk : ChunkRule) where
   abbrev pub accepted : State → List Call → List (List ℕ)
   accepted s [] = []
   accepted s (c ∷ cs) = taken s c ++ accepted (step s c) cs
+
+  -- "A chunk of the length wanted at its call's budget holds the cut bank's bytes from the next offset on; any other holds
+  -- anything."
+  abbrev pub HoldsChunk : List ℕ → State → Call → Type 0
+  HoldsChunk bank s (want budget) = Unit {0}
+  HoldsChunk bank s (accept budget bytes) =
+      wanting chunk (s .out) budget ≡ Wanted.Chunk (length bytes) → bytes ≡ take (length bytes) (drop (s .out .next) bank)
+
+  abbrev pub HoldsChunks : List ℕ → State → List Call → Type 0
+  HoldsChunks bank s [] = Unit {0}
+  HoldsChunks bank s (c ∷ cs) = HoldsChunk bank s c × HoldsChunks bank (step s c) cs
 
 abbrev pub sum : List ℕ → ℕ
 sum [] = 0
@@ -72,8 +106,48 @@ pub record Behind (chunk : ChunkRule) (s : State) (calls : List Call) : Type 0 w
   pub within : after chunk s calls .out .next ≤ s .out .length
   -- "its bytes stored at that offset in the lent buffer and nothing else there changed": all chunks in one
   pub buffer-is : after chunk s calls .buffer ≡ laid (s .buffer) (s .out .next) (joined (accepted chunk s calls))
+  pub room-stays : length (after chunk s calls .buffer) ≡ length (s .buffer)
   -- "Lengths over 0 end within as many chunks as bytes"
   pub ends : s .out .length ≤ s .out .next + length (accepted chunk s calls) → after chunk s calls .out .next ≡ s .out .length
 
 abbrev pub EveryListOfCalls : Type 0
 EveryListOfCalls = (chunk : ChunkRule) → Bounded chunk → (s : State) → s .out .next ≤ s .out .length → (calls : List Call) → Behind chunk s calls
+
+-- Where chunks of the wanted length hold a bank's bytes, the accepted ones are the bank's bytes, one behind the other.
+abbrev pub EveryChunkOfBank : Type 0
+EveryChunkOfBank =
+    (chunk : ChunkRule) → Bounded chunk → (bank : List ℕ) (s : State) → s .out .next ≤ s .out .length → (calls : List Call) →
+    HoldsChunks chunk bank s calls →
+    joined (accepted chunk s calls) ≡ take (sum (map length (accepted chunk s calls))) (drop (s .out .next) bank)
+
+-- ---- calls that are laid in slices: two numbers for each, its budget and the length of its chunk, or FFFF hex for wanting;
+-- the chunks' bytes stand one behind the other, and a chunk has what is there
+
+abbrev pub isWanting : ℕ → Bool
+isWanting len = eqb len 0xFFFF
+
+abbrev pub callWith : ℕ → ℕ → List ℕ → Call
+callWith budget len bytes = cond (isWanting len) (want budget) (accept budget bytes)
+
+unfoldable pub callsIn : List ℕ → List ℕ → List Call
+callsIn [] bytes = []
+callsIn (budget ∷ []) bytes = []
+callsIn (budget ∷ len ∷ rest) bytes = callWith budget len (take len bytes) ∷ callsIn rest (cond (isWanting len) bytes (drop len bytes))
+
+-- an answer in one number: done 0, a chunk its length, a read-out its next offset, a refusal its number and 512
+abbrev pub refusedNumber : Refusal → ℕ
+refusedNumber r = 512 + numberOf r
+
+abbrev pub wantedNumber : Wanted → ℕ
+wantedNumber (Wanted.Chunk n) = n
+wantedNumber Wanted.Done = 0
+wantedNumber (Wanted.Err r) = refusedNumber r
+
+abbrev pub answerNumber : Answer → ℕ
+answerNumber (wanted w) = wantedNumber w
+answerNumber (handed (Ok r)) = r .next
+answerNumber (handed (Err e)) = refusedNumber e
+
+-- what one call of them answers, in a number, and the read-out behind it
+abbrev pub calledBy : State → Call → Called
+calledBy s c = record { out = step chunkLen s c .out; answer = answerNumber (answer chunkLen s c) }

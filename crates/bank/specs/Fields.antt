@@ -98,7 +98,7 @@ endsBy f last = leb (lastOffset f) last
 abbrev pub fits : ℕ → ℕ → Bool
 fits len n = ltb n (2 ^ (8 * len))
 
-abbrev shownBy : FieldKind → LuminaireFormat → ℕ → Bool
+abbrev pub shownBy : FieldKind → LuminaireFormat → ℕ → Bool
 shownBy LayoutId v n = false
 shownBy (Number patch r) v n = shows r v n
 shownBy (Text t) v n = false

@@ -1,5 +1,6 @@
 // The bank layer: what a field of bank 1 shows and accepts (part251.rs, luminaire_write.rs), and how a bank
 // is read out in chunks of whole fields (layout.rs, and read_out, which the Rust lacks).
+pub mod call_list;
 pub mod layout;
 pub mod luminaire_write;
 pub mod part251;

@@ -11,7 +11,7 @@ use native.Mathlib.Omega.{arith}
 use borrow.Author.Tests.{ltb-true, ltb-false}
 use lib.Dec.{ltb}
 use lib.ListN.{length, getD, getElem?, set, take, drop, length-take, length-drop, length-append, drop-of-length-le}
-use lib.Seq.{take-all, take-append-le, take-suc, drop-cons, set-at, set-out, append-snoc, length-take-le, getD-take}
+use lib.Seq.{take-all, take-append-le, take-nil, take-suc, drop-cons, set-at, set-out, sets, append-snoc, length-take-le, getD-take}
 use Rattle.bus.specs.Value.{laidInto}
 use Rattle.bus.specs.Maps.{firstWith}
 use Rattle.bus.proofs.Tests.{by-test}
@@ -115,3 +115,19 @@ laid-more xs out x =
     ap (λ (r : List ℕ). set r (length xs) x) full
     ∙ set-out (take (length out) xs) (length xs) x (rw length-take (omega arith))
     ∙ sym (rw (drop-of-length-le out {i = length (xs ++ (x ∷ []))} long, take-append-le (length out) xs (x ∷ []) h) (append-nil (take (length out) xs))))
+
+-- elements stored one behind the other: into an empty list, and behind a list's head
+module _ {A : Type 0} where
+  sets-empty : (i : ℕ) (xs : List A) → sets [] i xs ≡ []
+  sets-empty i [] = refl
+  sets-empty i (x ∷ xs) = sets-empty (suc i) xs
+
+  pub sets-cons : (y : A) (l : List A) (i : ℕ) (xs : List A) → sets (y ∷ l) (suc i) xs ≡ y ∷ sets l i xs
+  sets-cons y l i [] = refl
+  sets-cons y l i (x ∷ xs) = sets-cons y (set l i x) (suc i) xs
+
+-- elements stored from the first index on are laid into the list
+pub sets-laid : (xs out : List ℕ) → sets out 0 xs ≡ laidInto xs out
+sets-laid [] out = rw take-nil
+sets-laid (x ∷ xs) [] = sets-empty 1 xs
+sets-laid (x ∷ xs) (y ∷ out) = sets-cons x out 0 xs ∙ ap (λ (l : List ℕ). x ∷ l) (sets-laid xs out)

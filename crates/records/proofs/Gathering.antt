@@ -9,7 +9,7 @@ use lib.ListN.{length, take, getD, getElem?}
 use lib.Seq.{take-nil}
 use Rattle.bus.proofs.Lists.{no-element}
 use Rattle.bank.specs.declared.luminaire_write.LuminaireField.{LuminaireField}
-use Rattle.records.specs.Writes.{gather, flat}
+use Rattle.records.specs.Writes.{gather, flat, Each}
 
 module _ {A B : Type 0} (g : A → List B) where
   pub flat-append : (xs ys : List A) → flat g (xs ++ ys) ≡ flat g xs ++ flat g ys
@@ -65,3 +65,18 @@ module _ {A : Type 0} where
       ∙ append-nil (g 0 h)
       ∙ ap (g 0) (Option·some-injective _ _ m)
   gather-only g (h ∷ fs) (suc p) m e = rw (e 0 h (λ z. suc-ne-zero _ (sym z)) refl) (gather-only (λ i. g (suc i)) fs p m (λ i f d. e (suc i) f (λ z. d (suc-inj z))))
+
+-- ---- each element of lists in two parts, and of what fields give
+
+module _ {A : Type 0} (P : A → Type 0) where
+  pub each-append : (xs ys : List A) → Each P xs → Each P ys → Each P (xs ++ ys)
+  each-append [] ys a b = b
+  each-append (x ∷ xs) ys a b = (a .0, each-append xs ys (a .1) b)
+
+  pub each-gather : (g : ℕ → LuminaireField → List A) (fs : List LuminaireField) → ((i : ℕ) (f : LuminaireField) → getElem? fs i ≡ some f → Each P (g i f)) → Each P (gather g fs)
+  each-gather g [] h = tt
+  each-gather g (f ∷ fs) h = each-append (g 0 f) (gather (λ i. g (suc i)) fs) (h 0 f refl) (each-gather (λ i. g (suc i)) fs (λ i. h (suc i)))
+
+pub each-map : {A : Type 0} (P Q : A → Type 0) → ((x : A) → P x → Q x) → (xs : List A) → Each P xs → Each Q xs
+each-map P Q f [] a = tt
+each-map P Q f (x ∷ xs) a = (f x (a .0), each-map P Q f xs (a .1))

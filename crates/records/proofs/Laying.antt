@@ -7,22 +7,13 @@ use native.Mathlib.Nat.{zero-add, add-zero, add-suc, suc-add}
 use native.Mathlib.Numerals.{add-one}
 use native.Mathlib.Omega.{arith}
 use lib.ListN.{length, take, drop, set, getD, length-set, length-map, take-append-drop}
-use lib.Seq.{sets, set-out, length-sets, take-nil, take-suc, take-at, length-take-le}
-use Rattle.bus.specs.Value.{laidInto}
-use Rattle.bus.proofs.Lists.{laid-whole}
+use lib.Seq.{sets, set-out, length-sets, take-suc, take-at, length-take-le}
+use Rattle.bus.proofs.Lists.{laid-whole, sets-laid}
 
 module _ {A : Type 0} where
   pub sets-append : (l : List A) (i : ℕ) (xs ys : List A) → sets l i (xs ++ ys) ≡ sets (sets l i xs) (i + length xs) ys
   sets-append l i [] ys = rw add-zero
   sets-append l i (x ∷ xs) ys = sets-append (set l i x) (suc i) xs ys ∙ rw (suc-add, add-suc)
-
-  sets-empty : (i : ℕ) (xs : List A) → sets [] i xs ≡ []
-  sets-empty i [] = refl
-  sets-empty i (x ∷ xs) = sets-empty (suc i) xs
-
-  sets-cons : (y : A) (l : List A) (i : ℕ) (xs : List A) → sets (y ∷ l) (suc i) xs ≡ y ∷ sets l i xs
-  sets-cons y l i [] = refl
-  sets-cons y l i (x ∷ xs) = sets-cons y (set l i x) (suc i) xs
 
   -- nothing is stored behind the end
   pub sets-behind : (l : List A) (i : ℕ) (xs : List A) → length l ≤ i → sets l i xs ≡ l
@@ -63,11 +54,6 @@ module _ (l : List ℕ) (at : ℕ) {l′ l″ : List ℕ} {n : ℕ} where
   pub members-behind : {A : Type 0} (f : A → ℕ) (xs ys : List A) → n ≡ at + length xs → l′ ≡ sets l at (map f xs) → l″ ≡ sets l′ n (map f ys) → l″ ≡ sets l at (map f (xs ++ ys))
   members-behind f xs ys e a b =
       laid-behind (map f xs) (map f ys) (e ∙ ap (λ (k : ℕ). at + k) (sym (length-map xs f))) a b ∙ ap (sets l at) (sym (map-append f xs ys))
-
-pub sets-laid : (xs out : List ℕ) → sets out 0 xs ≡ laidInto xs out
-sets-laid [] out = rw take-nil
-sets-laid (x ∷ xs) [] = sets-empty 1 xs
-sets-laid (x ∷ xs) (y ∷ out) = sets-cons x out 0 xs ∙ ap (λ (l : List ℕ). x ∷ l) (sets-laid xs out)
 
 -- what was laid is there
 pub front-laid : (xs out : List ℕ) → length xs ≤ length out → take (length xs) (sets out 0 xs) ≡ xs

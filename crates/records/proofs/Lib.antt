@@ -6,6 +6,7 @@ pub mod Table
 pub mod Stages
 pub mod Stores
 pub mod Order
+pub mod Cutting
 pub mod Planned
 pub mod Plans
 pub mod Numbers
@@ -15,7 +16,12 @@ pub mod Places
 pub mod Records
 pub mod Sequences
 pub mod Texts
+pub mod Luminaire
 pub mod Window
 pub mod Configurations
 pub mod Parts
 pub mod Cases
+pub mod Room
+pub mod CutFields
+pub mod Claim
+pub mod CutRuns

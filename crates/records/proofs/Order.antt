@@ -3,13 +3,12 @@
 use mathlib.Core.Path.{_≡_, refl, sym, _∙_, subst}
 use mathlib.Core.Bool.{true, cond}
 use mathlib.Core.List.{List, [], _∷_, _++_, append-nil}
-use mathlib.Core.Option.{Option, none, some}
-use Prim.Native.Nat.{ℕ, zero, suc, _+_, _-_, _≤_, _<_, suc-le-suc}
-use native.Mathlib.Nat.{le-of-suc-le-suc, not-suc-le-zero}
+use mathlib.Core.Option.{Option, none, some, Option·some-injective}
+use Prim.Native.Nat.{ℕ, zero, suc, _+_, _-_, _≤_}
 use native.Mathlib.Omega.{arith}
 use borrow.Author.Tests.{leb-true, le-leb, not-false}
 use lib.Dec.{leb}
-use lib.ListN.{length, take, drop, getD, getElem?, length-take, length-drop}
+use lib.ListN.{length, take, drop, getElem?, length-take, length-drop}
 use Rattle.bus.specs.declared.OptionU8.{OptionU8}
 use Rattle.bus.proofs.Tests.{by-test}
 use Rattle.bus.proofs.Lists.{no-element}
@@ -24,26 +23,11 @@ use Rattle.bank.specs.Writable.{writeChecks}
 use Rattle.bank.proofs.Checks.{passed, passed-first}
 use Rattle.records.specs.declared.luminaire_write.LuminaireNumbers.{LuminaireNumbers}
 use Rattle.records.specs.declared.luminaire_write.Plan.{Plan}
-use Rattle.records.specs.Writes.{Write, Store, wantedNumber, isFor, gather, bytesFor, written, writesAt, plannedWrites, isStaged, singleBytes, writeStores, storesAt, planStores, Each, InField, InPlace, Rising, InOrder, EveryPlanInOrder, Staged, EveryWriteStaged}
+use Rattle.records.specs.Writes.{Write, Store, wantedNumber, isFor, gather, bytesFor, written, writesAt, plannedWrites, isStaged, singleBytes, writeStores, storesAt, Each, InField, InPlace, Rising, InOrder, EveryPlanInOrder, Staged, EveryWriteStaged}
 use Rattle.records.specs.Plan.{numberChecks, textChecks, ifWanted, fieldChecks, unknownBits, unknownField, planChecks, storesOf, EveryStoreInBank}
-use Rattle.records.proofs.Gathering.{flat-gather}
-use Rattle.records.proofs.Table.{second-true, table-entry, table-length, table-rises, Sorted, none-field}
+use Rattle.records.proofs.Gathering.{each-append, each-gather, each-map}
+use Rattle.records.proofs.Table.{second-true, by-field, table-rises, Sorted}
 use Rattle.records.proofs.Stages.{bytes-fit, stores-of-write}
-
--- ---- each element of lists in two parts, of what elements give, and of what fields give
-
-module _ {A : Type 0} (P : A → Type 0) where
-  each-append : (xs ys : List A) → Each P xs → Each P ys → Each P (xs ++ ys)
-  each-append [] ys a b = b
-  each-append (x ∷ xs) ys a b = (a .0, each-append xs ys (a .1) b)
-
-  each-gather : (g : ℕ → LuminaireField → List A) (d : LuminaireField) (fs : List LuminaireField) → ((i : ℕ) → i < length fs → Each P (g i (getD fs i d))) → Each P (gather g fs)
-  each-gather g d [] h = tt
-  each-gather g d (f ∷ fs) h = each-append (g 0 f) (gather (λ i. g (suc i)) fs) (h 0 (omega arith)) (each-gather (λ i. g (suc i)) d fs (λ i l. h (suc i) (suc-le-suc l)))
-
-each-map : {A : Type 0} (P Q : A → Type 0) → ((x : A) → P x → Q x) → (xs : List A) → Each P xs → Each Q xs
-each-map P Q f [] a = tt
-each-map P Q f (x ∷ xs) a = (f x (a .0), each-map P Q f xs (a .1))
 
 -- ---- the stores of a write
 
@@ -103,6 +87,14 @@ module _ (n : LuminaireNumbers) (which : OptionUsize) (text : List ℕ) where
   own i f none e = rw e tt
   own i f (some bytes) e = rw e refl
 
+  -- the stores of a field stand in it
+  pub in-field : (i : ℕ) (f : LuminaireField) → Each (InField f) (storesAt n which text i f)
+  in-field i f = go (bytesFor (f .kind) n which text i f) refl
+    where
+      go : (o : Option (List ℕ)) → bytesFor (f .kind) n which text i f ≡ o → Each (InField f) (storesAt n which text i f)
+      go none e = rw e tt
+      go (some bytes) e = subst (Each (InField f)) (sym (stores-of-write n which text i f e)) (inside i f bytes (bytes-fit (f .kind) n which text i f e))
+
   placed : (i : ℕ) (f : LuminaireField) → getElem? luminaireFields i ≡ some f → (o : Option (List ℕ)) → bytesFor (f .kind) n which text i f ≡ o → Each InPlace (writesAt n which text i f)
   placed i f t none e = rw e tt
   placed i f t (some bytes) e =
@@ -113,7 +105,7 @@ module _ (n : LuminaireNumbers) (which : OptionUsize) (text : List ℕ) where
   unfolding plannedWrites
   plan-in-order =
       record {
-        in-place = each-gather InPlace (writesAt n which text) none-field luminaireFields (λ i h. let f = getD luminaireFields i none-field in placed i f (table-entry i none-field (rw table-length at h)) (bytesFor (f .kind) n which text i f) refl);
+        in-place = each-gather InPlace (writesAt n which text) luminaireFields (λ i f e. placed i f e (bytesFor (f .kind) n which text i f) refl);
         rising = rising-gather (writesAt n which text) 0 luminaireFields table-rises (λ i f. own i f (bytesFor (f .kind) n which text i f) refl);
       }
 
@@ -122,7 +114,7 @@ every-plan-in-order n which text = plan-in-order n which text
 
 -- ---- an accepted plan
 
-none-first : (xs ys : List Check) → firstOf (xs ++ ys) ≡ none → firstOf xs ≡ none
+pub none-first : (xs ys : List Check) → firstOf (xs ++ ys) ≡ none → firstOf xs ≡ none
 unfolding firstOf
 none-first [] ys e = refl
 none-first (x ∷ xs) ys e =
@@ -130,16 +122,21 @@ none-first (x ∷ xs) ys e =
     (λ t. no-element (sym (rw t at e)))
     (λ t. rw t (none-first xs ys (rw t at e)))
 
-none-second : (xs ys : List Check) → firstOf (xs ++ ys) ≡ none → firstOf ys ≡ none
+pub none-second : (xs ys : List Check) → firstOf (xs ++ ys) ≡ none → firstOf ys ≡ none
 none-second xs ys e = sym (passed-first xs ys (none-first xs ys e)) ∙ e
 
-none-gather : (g : ℕ → LuminaireField → List Check) (d : LuminaireField) (fs : List LuminaireField) → firstOf (gather g fs) ≡ none → (i : ℕ) → i < length fs → firstOf (g i (getD fs i d)) ≡ none
-none-gather g d [] e i h = absurd (not-suc-le-zero h)
-none-gather g d (f ∷ fs) e zero h = none-first (g 0 f) (gather (λ i. g (suc i)) fs) e
-none-gather g d (f ∷ fs) e (suc i) h = none-gather (λ i. g (suc i)) d fs (none-second (g 0 f) (gather (λ i. g (suc i)) fs) e) i (le-of-suc-le-suc h)
+none-gather : (g : ℕ → LuminaireField → List Check) (fs : List LuminaireField) → firstOf (gather g fs) ≡ none → (i : ℕ) {f : LuminaireField} → getElem? fs i ≡ some f → firstOf (g i f) ≡ none
+none-gather g [] e i m = no-element m
+none-gather g (h ∷ fs) e zero m = subst (λ (f : LuminaireField). firstOf (g 0 f) ≡ none) (Option·some-injective _ _ m) (none-first (g 0 h) (gather (λ i. g (suc i)) fs) e)
+none-gather g (h ∷ fs) e (suc i) m = none-gather (λ i. g (suc i)) fs (none-second (g 0 h) (gather (λ i. g (suc i)) fs) e) i m
+
+-- each field's checks
+pub field-sound : (p : Plan) (text : List ℕ) → firstOf (planChecks p text) ≡ none → (i : ℕ) {f : LuminaireField} → getElem? luminaireFields i ≡ some f → firstOf (fieldChecks p text i f) ≡ none
+unfolding planChecks
+field-sound p text s i m = none-gather (fieldChecks p text) luminaireFields (none-second (unknownBits p ∷ unknownField p ∷ []) (gather (fieldChecks p text) luminaireFields) s) i m
 
 -- a field that may be written ends by the last offset
-ends-within : (l : Bank1Layout) (f : LuminaireField) (last : ℕ) (later : List Check) → l .«last_offset» ≡ OptionU8.Some last → firstOf (writeChecks l f ++ later) ≡ none → fieldEnd f - 1 ≤ last
+pub ends-within : (l : Bank1Layout) (f : LuminaireField) (last : ℕ) (later : List Check) → l .«last_offset» ≡ OptionU8.Some last → firstOf (writeChecks l f ++ later) ≡ none → fieldEnd f - 1 ≤ last
 ends-within l f last later e s =
     let p = passed (writeChecks l f) (none-first (writeChecks l f) later s) in
     leb-true (fieldEnd f - 1) last (not-false (leb (fieldEnd f - 1) last) (rw e at (p .1 .1 .1 .1 .1 .0)))
@@ -162,17 +159,13 @@ module _ (p : Plan) (text : List ℕ) (last : ℕ) (known : p .layout .«last_of
   field-in-bank i f s none e = rw e tt
   field-in-bank i f s (some bytes) e =
       let end = write-ends (f .kind) i f refl s e in
-      subst (Each (λ (s : Store). s .offset ≤ last)) (sym (stores-of-write (p .numbers) (p .«text_field») text i f e))
-      (each-map (InField f) (λ (s : Store). s .offset ≤ last) (λ s h. omega (arith, h .0, h .1, end)) (writeStores (written i f bytes)) (inside i f bytes (bytes-fit (f .kind) (p .numbers) (p .«text_field») text i f e)))
+      each-map (InField f) (λ (s : Store). s .offset ≤ last) (λ s h. omega (arith, h .0, h .1, end)) (storesAt (p .numbers) (p .«text_field») text i f) (in-field (p .numbers) (p .«text_field») text i f)
 
   stores-in-bank : firstOf (planChecks p text) ≡ none → Each (λ (s : Store). s .offset ≤ last) (storesOf p text)
-  unfolding planChecks planStores plannedWrites
   stores-in-bank s =
-      subst (Each (λ (s : Store). s .offset ≤ last)) (sym (flat-gather writeStores (writesAt (p .numbers) (p .«text_field») text) luminaireFields))
-      (each-gather (λ (s : Store). s .offset ≤ last) (storesAt (p .numbers) (p .«text_field») text) none-field luminaireFields
-      (λ i h.
-      let f = getD luminaireFields i none-field in
-      field-in-bank i f (none-gather (fieldChecks p text) none-field luminaireFields (none-second (unknownBits p ∷ unknownField p ∷ []) (gather (fieldChecks p text) luminaireFields) s) i h) (bytesFor (f .kind) (p .numbers) (p .«text_field») text i f) refl))
+      subst (Each (λ (s : Store). s .offset ≤ last)) (sym (by-field (p .numbers) (p .«text_field») text))
+      (each-gather (λ (s : Store). s .offset ≤ last) (storesAt (p .numbers) (p .«text_field») text) luminaireFields
+      (λ i f e. field-in-bank i f (field-sound p text s i e) (bytesFor (f .kind) (p .numbers) (p .«text_field») text i f) refl))
 
 pub every-store-in-bank : EveryStoreInBank
 every-store-in-bank p text last s known = stores-in-bank p text last known s

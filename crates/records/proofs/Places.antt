@@ -16,6 +16,7 @@ use Rattle.bus.specs.declared.ValueWidth.{ValueWidth}
 use Rattle.bus.specs.Number.{number}
 use Rattle.bus.specs.Width.{bytesOf}
 use Rattle.bus.specs.Value.{classified, readAt, valueOf}
+use Rattle.bus.proofs.Number.{number-part}
 use Rattle.bus.proofs.Options.{told-number}
 use Rattle.bus.proofs.Tests.{by-test, no-yes}
 use Rattle.bus.proofs.Value.{no-mask-shown}
@@ -85,6 +86,13 @@ module _ (start : ℕ) (bytes : List ℕ) (o n : ℕ) where
       (λ t. absurd (no-yes (sym (rw (s, t) at e))))
       (λ t. rw (s, t)))
       (λ s. rw s)
+
+-- the number of a field that is there, from its bytes as they are lent
+pub number-there :
+    {start : ℕ} {bytes : List ℕ} {o n r : ℕ} →
+    There start bytes o n → n ≤ 8 → r ≡ number (take 8 (take (o - start + n - (o - start)) (drop (o - start) bytes))) →
+    Option·map number (fieldAt start bytes o n) ≡ some r
+number-there {start} {bytes} {o} {n} t h e = ap (Option·map number) (t .is) ∙ ap some (sym (e ∙ number-part bytes (o - start) n h))
 
 -- a part of a part
 part-of-part : (m k n : ℕ) (xs : List ℕ) → k + n ≤ m → take n (drop k (take m xs)) ≡ take n (drop k xs)

@@ -61,9 +61,12 @@ pub table-within : (t : List LuminaireField) → t ≡ luminaireFields → (i : 
 table-within t e i d h = rw e (within-bank i (table-entry i d h))
 
 -- all planned stores, field by field
-pub all-stores : (n : LuminaireNumbers) (which : OptionUsize) (text : List ℕ) (i : ℕ) → 18 ≤ i → gather (storesAt n which text) (take i luminaireFields) ≡ planStores n which text
+pub by-field : (n : LuminaireNumbers) (which : OptionUsize) (text : List ℕ) → planStores n which text ≡ gather (storesAt n which text) luminaireFields
 unfolding planStores plannedWrites
-all-stores n which text i h = rw (take-all i luminaireFields (rw table-length h)) (sym (flat-gather writeStores (writesAt n which text) luminaireFields))
+by-field n which text = flat-gather writeStores (writesAt n which text) luminaireFields
+
+pub all-stores : (n : LuminaireNumbers) (which : OptionUsize) (text : List ℕ) (i : ℕ) → 18 ≤ i → gather (storesAt n which text) (take i luminaireFields) ≡ planStores n which text
+all-stores n which text i h = rw (take-all i luminaireFields (rw table-length h)) (sym (by-field n which text))
 
 -- the fields come by rising offset, each behind the end of the one before
 abbrev pub Sorted : ℕ → List LuminaireField → Type 0

@@ -4,9 +4,13 @@ pub mod Places
 pub mod Records
 pub mod Utf8
 pub mod Text
+pub mod Luminaire
 pub mod Identity
 pub mod BusUnit
 pub mod Writes
 pub mod Plan
+pub mod Cut
+pub mod Claim
+pub mod CutRun
 pub mod Steps
 pub mod Cases

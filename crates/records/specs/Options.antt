@@ -5,6 +5,8 @@ use lib.IntN.{ℤ}
 use Rattle.records.specs.declared.OptionI8.{OptionI8}
 use Rattle.records.specs.declared.attributes.BankReading.{BankReading}
 use Rattle.records.specs.declared.attributes.OptionBankReading.{OptionBankReading}
+use Rattle.records.specs.declared.attributes.LuminaireValue.{LuminaireValue}
+use Rattle.records.specs.declared.attributes.OptionLuminaireValue.{OptionLuminaireValue}
 
 abbrev pub optionI8 : Option ℤ → OptionI8
 optionI8 (some z) = OptionI8.Some z
@@ -13,3 +15,7 @@ optionI8 none = OptionI8.None
 abbrev pub optionBankReading : Option BankReading → OptionBankReading
 optionBankReading (some r) = OptionBankReading.Some r
 optionBankReading none = OptionBankReading.None
+
+abbrev pub optionLuminaireValue : Option LuminaireValue → OptionLuminaireValue
+optionLuminaireValue (some v) = OptionLuminaireValue.Some v
+optionLuminaireValue none = OptionLuminaireValue.None

@@ -21,3 +21,8 @@ pub struct LuminaireValue {
     pub value: OptionU32,
     pub part209_implemented: bool,
 }
+
+pub enum OptionLuminaireValue {
+    Some(LuminaireValue),
+    None,
+}

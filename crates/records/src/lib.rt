@@ -3,6 +3,7 @@
 // (luminaire_write.rs).
 pub mod attributes;
 pub mod bus_unit;
+pub mod cut_plan;
 pub mod fixed_text;
 pub mod identity;
 pub mod luminaire_write;
@@ -14,6 +15,7 @@ mod utf8;
 pub use attributes::BankReading;
 pub use attributes::LuminaireValue;
 pub use attributes::OptionBankReading;
+pub use attributes::OptionLuminaireValue;
 use bank::Refusal;
 pub use bus_unit::BusUnitConfiguration;
 pub use bus_unit::EmergencyGearType;
@@ -35,6 +37,7 @@ pub use memory_bank_parser::ParsedBusUnit;
 pub use memory_bank_parser::ParsedCondition;
 pub use memory_bank_parser::ParsedEnergyBank;
 pub use memory_bank_parser::ParsedGearDiagnostics;
+pub use memory_bank_parser::ParsedLuminaire;
 pub use memory_bank_parser::ParsedLuminaireMaintenance;
 pub use memory_bank_parser::ParsedMemoryIdentity;
 pub use memory_bank_parser::ParsedMemoryProfile;

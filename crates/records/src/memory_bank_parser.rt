@@ -2,7 +2,9 @@
 // not wholly present is absent.
 use crate::OptionI8;
 use crate::attributes::BankReading;
+use crate::attributes::LuminaireValue;
 use crate::attributes::OptionBankReading;
+use crate::attributes::OptionLuminaireValue;
 use crate::bus_unit::BUS_UNIT_CONFIGURATION_OFFSET;
 use crate::bus_unit::IMPLEMENTED_PARTS_OFFSET;
 use crate::fixed_text::FixedText;
@@ -15,25 +17,57 @@ use crate::identity::is_mask;
 use crate::output::hex_digits;
 use crate::part251::text_len;
 use crate::utf8::sequence_len;
+use bank::NumberRule;
+use bank::OptionU16;
+use bank::OptionU32;
+use bank::part251::CctReading;
+use bank::part251::cct;
 use bus::BankValue;
+use bus::LuminaireFormat;
 use bus::OptionBankValue;
+use bus::OptionLuminaireFormat;
 use bus::OptionU8;
 use bus::OptionU64;
 use bus::TextRegion;
 use bus::ValueWidth;
 use bus::number_of;
+use bus::part251::CCT_OFFSET;
+use bus::part251::CONTENT_FORMAT_ID_OFFSET;
+use bus::part251::CRI_OFFSET;
+use bus::part251::CUSTOMER_STOCKING_NUMBER;
+use bus::part251::FREE_USE;
+use bus::part251::LAMP_CURRENT_OFFSET;
+use bus::part251::LIGHT_DISTRIBUTION;
+use bus::part251::LIGHT_DISTRIBUTION_TYPE_OFFSET;
+use bus::part251::LUMINAIRE_COLOUR;
+use bus::part251::LUMINAIRE_IDENTIFICATION;
+use bus::part251::NOMINAL_INPUT_POWER_OFFSET;
+use bus::part251::NOMINAL_LIGHT_OUTPUT_OFFSET;
+use bus::part251::NOMINAL_MAX_AC_VOLTAGE_OFFSET;
+use bus::part251::NOMINAL_MIN_AC_VOLTAGE_OFFSET;
+use bus::part251::OEM_NAME;
+use bus::part251::POWER_AT_MINIMUM_OFFSET;
+use bus::part251::WEEK_OFFSET;
+use bus::part251::YEAR_OFFSET;
 use bus::read_value;
 use bus::signed_byte;
+ghost use mathlib.Core.Bool.{cond};
+ghost use mathlib.Core.Option.{none, some, Option·map};
 ghost use mathlib.Core.Path.{_≡_};
 ghost use Prim.Native.Nat.{_+_, _-_, _≤_, _<_};
 ghost use lib.ListN.{length};
+ghost use Rattle.bus.specs.declared.part251.LuminaireFormat.the-variants.{V3};
+ghost use Rattle.bus.specs.Number.{number};
 ghost use Rattle.bus.specs.Options.{optionU8, optionU64};
 ghost use Rattle.bus.specs.Value.{notImplemented, laidInto};
+ghost use Rattle.bank.specs.Options.{optionU16};
+ghost use Rattle.records.specs.declared.fixed_text.TextLimit.the-variants.{Bytes32};
 ghost use Rattle.records.specs.Options.{optionI8, optionBankReading};
 ghost use Rattle.records.specs.Places.{fieldAt, isThere, byteAt, numberAt, readingOf, readingAt, isScale, scaleOf, scaleAt};
 ghost use Rattle.records.specs.Records.{bank0Identity, bank1Profile, bank0BusUnit, energyBank, condition, gearDiagnostics, sourceDiagnostics, luminaireMaintenance};
-ghost use Rattle.records.specs.Text.{escape, piece, escaped, shownText, textRegion};
-ghost use Rattle.records.specs.Steps.{pushedLen, afterPush, pushed};
+ghost use Rattle.records.specs.Luminaire.{valueIn, recordOf, numbersIn, textsIn, luminaire};
+ghost use Rattle.records.specs.Text.{escape, piece, escaped, shownText, textIn, textRegion};
+ghost use Rattle.records.specs.Steps.{pushedLen, afterPush, pushed, plainValue, plainIn, valueAt, withoutTexts, noNumbers, numbersOf};
 
 pub struct ParsedMemoryIdentity {
     pub last_memory_bank: OptionU8,
@@ -213,6 +247,288 @@ pub fn parse_bank0_bus_unit(bytes: &[u8], start_offset: u16) -> ParsedBusUnit
         configuration: byte(bytes, start_offset, BUS_UNIT_CONFIGURATION_OFFSET as usize),
         implemented_parts: byte(bytes, start_offset, IMPLEMENTED_PARTS_OFFSET as usize),
     }
+}
+
+pub struct ParsedLuminaire {
+    pub content_format_id: OptionU16,
+    pub year: OptionLuminaireValue,
+    pub week: OptionLuminaireValue,
+    pub nominal_input_power_w: OptionLuminaireValue,
+    pub power_at_minimum_w: OptionLuminaireValue,
+    pub nominal_min_ac_voltage_v: OptionLuminaireValue,
+    pub nominal_max_ac_voltage_v: OptionLuminaireValue,
+    pub nominal_light_output_lm: OptionLuminaireValue,
+    pub cri: OptionLuminaireValue,
+    pub cct_kelvin: OptionLuminaireValue,
+    pub light_distribution_type: OptionLuminaireValue,
+    pub luminaire_colour: FixedText,
+    pub luminaire_identification: FixedText,
+    pub light_distribution: FixedText,
+    pub oem_name: FixedText,
+    pub customer_stocking_number: FixedText,
+    pub lamp_current_ma: OptionLuminaireValue,
+    pub free_use: FixedText,
+}
+
+// A record without any number or text.
+fn blank_luminaire(content_format_id: OptionU16) -> ParsedLuminaire
+    ensures { λ r. ⌜ r ≡ withoutTexts «content_format_id» noNumbers ⌝ }
+{
+    let text = FixedText::absent(TextLimit::Bytes32);
+    ParsedLuminaire {
+        content_format_id,
+        year: OptionLuminaireValue::None,
+        week: OptionLuminaireValue::None,
+        nominal_input_power_w: OptionLuminaireValue::None,
+        power_at_minimum_w: OptionLuminaireValue::None,
+        nominal_min_ac_voltage_v: OptionLuminaireValue::None,
+        nominal_max_ac_voltage_v: OptionLuminaireValue::None,
+        nominal_light_output_lm: OptionLuminaireValue::None,
+        cri: OptionLuminaireValue::None,
+        cct_kelvin: OptionLuminaireValue::None,
+        light_distribution_type: OptionLuminaireValue::None,
+        luminaire_colour: text,
+        luminaire_identification: FixedText::absent(TextLimit::Bytes64),
+        light_distribution: text,
+        oem_name: text,
+        customer_stocking_number: text,
+        lamp_current_ma: OptionLuminaireValue::None,
+        free_use: text,
+    }
+}
+
+fn luminaire_value(raw: u32, value: OptionU32) -> LuminaireValue
+    ensures { λ r. ⌜ r ≡ plainValue raw value ⌝ }
+{
+    LuminaireValue {
+        raw,
+        value,
+        part209_implemented: false,
+    }
+}
+
+// A raw number, where its rule shows it.
+fn classified(raw: u32, rule: NumberRule, format: LuminaireFormat) -> LuminaireValue
+    ensures { λ r. ⌜ r ≡ plainIn rule format raw ⌝ }
+{
+    if rule.shows_back(raw as u64, format) {
+        luminaire_value(raw, OptionU32::Some(raw))
+    } else {
+        luminaire_value(raw, OptionU32::None)
+    }
+}
+
+fn u8_field(
+    bytes: &[u8],
+    start_offset: u16,
+    offset: u8,
+    rule: NumberRule,
+    format: LuminaireFormat,
+) -> OptionLuminaireValue
+    ensures { λ r. ⌜ r ≡ valueAt «start_offset» (now (bytes .entry)) offset 1 (plainIn rule format) ⌝ }
+{
+    match byte(bytes, start_offset, offset as usize) {
+        OptionU8::Some(raw) => OptionLuminaireValue::Some(classified(raw as u32, rule, format)),
+        OptionU8::None => OptionLuminaireValue::None,
+    }
+}
+
+// The number of two bytes.
+fn u16_at(bytes: &[u8], start_offset: u16, offset: u8) -> OptionU16
+    ensures { λ r. ⌜ r ≡ optionU16 (Option·map number (fieldAt «start_offset» (now (bytes .entry)) offset 2)) ⌝ }
+{
+    if !holds(bytes, start_offset, offset as usize, 2) {
+        return OptionU16::None;
+    }
+    let rel = offset as usize - start_offset as usize;
+    let end = rel + 2;
+    let raw = number_of(&bytes[rel..end]) as u16;
+    OptionU16::Some(raw)
+}
+
+fn u16_field(
+    bytes: &[u8],
+    start_offset: u16,
+    offset: u8,
+    rule: NumberRule,
+    format: LuminaireFormat,
+) -> OptionLuminaireValue
+    ensures { λ r. ⌜ r ≡ valueAt «start_offset» (now (bytes .entry)) offset 2 (plainIn rule format) ⌝ }
+{
+    match u16_at(bytes, start_offset, offset) {
+        OptionU16::Some(raw) => OptionLuminaireValue::Some(classified(raw as u32, rule, format)),
+        OptionU16::None => OptionLuminaireValue::None,
+    }
+}
+
+pub fn parse_bank1_luminaire(bytes: &[u8], start_offset: u16) -> ParsedLuminaire
+    ensures { λ r. ⌜ r ≡ luminaire «start_offset» (now (bytes .entry)) ⌝ }
+{
+    let id = u16_at(bytes, start_offset, CONTENT_FORMAT_ID_OFFSET);
+    match id {
+        OptionU16::None => blank_luminaire(id),
+        OptionU16::Some(raw) => match LuminaireFormat::from_content_format_id(raw) {
+            OptionLuminaireFormat::None => blank_luminaire(id),
+            OptionLuminaireFormat::Some(format) => {
+                let numbers = parse_luminaire_numbers(id, bytes, start_offset, format);
+                fill_luminaire_text(numbers, bytes, start_offset, format)
+            }
+        },
+    }
+}
+
+fn parse_light_distribution_type(
+    bytes: &[u8],
+    start_offset: u16,
+    format: LuminaireFormat,
+) -> OptionLuminaireValue
+    ensures { λ r. ⌜ r ≡ valueAt «start_offset» (now (bytes .entry)) 0x23 1 (plainIn NumberRule.LightDistributionType format) ⌝ }
+{
+    u8_field(
+        bytes,
+        start_offset,
+        LIGHT_DISTRIBUTION_TYPE_OFFSET,
+        NumberRule::LightDistributionType,
+        format,
+    )
+}
+
+fn parse_lamp_current(
+    bytes: &[u8],
+    start_offset: u16,
+    format: LuminaireFormat,
+) -> OptionLuminaireValue
+    ensures { λ r. ⌜ r ≡ numbersIn «start_offset» (now (bytes .entry)) (some format) 16 ⌝ }
+{
+    if !format.has_extended_block() {
+        return OptionLuminaireValue::None;
+    }
+    u16_field(
+        bytes,
+        start_offset,
+        LAMP_CURRENT_OFFSET,
+        NumberRule::LampCurrent,
+        format,
+    )
+}
+
+fn parse_luminaire_numbers(
+    content_format_id: OptionU16,
+    bytes: &[u8],
+    start_offset: u16,
+    format: LuminaireFormat,
+) -> ParsedLuminaire
+    ensures { λ r. ⌜ r ≡ withoutTexts «content_format_id» (numbersIn «start_offset» (now (bytes .entry)) (some format)) ⌝ }
+{
+    let at = start_offset;
+    let power = NumberRule::Power;
+    let voltage = NumberRule::MainsVoltage;
+    let text = FixedText::absent(TextLimit::Bytes32);
+    ParsedLuminaire {
+        content_format_id,
+        year: u8_field(bytes, at, YEAR_OFFSET, NumberRule::Year, format),
+        week: u8_field(bytes, at, WEEK_OFFSET, NumberRule::Week, format),
+        nominal_input_power_w: u16_field(bytes, at, NOMINAL_INPUT_POWER_OFFSET, power, format),
+        power_at_minimum_w: u16_field(bytes, at, POWER_AT_MINIMUM_OFFSET, power, format),
+        nominal_min_ac_voltage_v: u16_field(
+            bytes,
+            at,
+            NOMINAL_MIN_AC_VOLTAGE_OFFSET,
+            voltage,
+            format,
+        ),
+        nominal_max_ac_voltage_v: u16_field(
+            bytes,
+            at,
+            NOMINAL_MAX_AC_VOLTAGE_OFFSET,
+            voltage,
+            format,
+        ),
+        nominal_light_output_lm: parse_light_output(bytes, at),
+        cri: u8_field(bytes, at, CRI_OFFSET, NumberRule::Cri, format),
+        cct_kelvin: parse_cct(bytes, at),
+        light_distribution_type: parse_light_distribution_type(bytes, at, format),
+        luminaire_colour: text,
+        luminaire_identification: FixedText::absent(TextLimit::Bytes64),
+        light_distribution: text,
+        oem_name: text,
+        customer_stocking_number: text,
+        lamp_current_ma: parse_lamp_current(bytes, at, format),
+        free_use: text,
+    }
+}
+
+fn parse_light_output(bytes: &[u8], start_offset: u16) -> OptionLuminaireValue
+    ensures { λ r. ⌜ r ≡ valueAt «start_offset» (now (bytes .entry)) 0x1D 3 (plainIn NumberRule.LightOutput V3) ⌝ }
+{
+    let offset = NOMINAL_LIGHT_OUTPUT_OFFSET as usize;
+    if !holds(bytes, start_offset, offset, 3) {
+        return OptionLuminaireValue::None;
+    }
+    let rel = offset - start_offset as usize;
+    let end = rel + 3;
+    let raw = number_of(&bytes[rel..end]) as u32;
+    OptionLuminaireValue::Some(classified(raw, NumberRule::LightOutput, LuminaireFormat::V3))
+}
+
+// What a colour temperature says.
+fn cct_value(raw: u16) -> LuminaireValue
+    ensures { λ r. ⌜ r ≡ valueIn NumberRule.Cct V3 raw ⌝ }
+{
+    match cct(raw) {
+        CctReading::Kelvin(kelvin) => luminaire_value(raw as u32, OptionU32::Some(kelvin as u32)),
+        CctReading::Part209Implemented => LuminaireValue {
+            raw: raw as u32,
+            value: OptionU32::None,
+            part209_implemented: true,
+        },
+        CctReading::Unknown => luminaire_value(raw as u32, OptionU32::None),
+    }
+}
+
+fn parse_cct(bytes: &[u8], start_offset: u16) -> OptionLuminaireValue
+    ensures { λ r. ⌜ r ≡ valueAt «start_offset» (now (bytes .entry)) 0x21 2 (valueIn NumberRule.Cct V3) ⌝ }
+{
+    match u16_at(bytes, start_offset, CCT_OFFSET) {
+        OptionU16::Some(raw) => OptionLuminaireValue::Some(cct_value(raw)),
+        OptionU16::None => OptionLuminaireValue::None,
+    }
+}
+
+fn fill_luminaire_text(
+    parsed: ParsedLuminaire,
+    bytes: &[u8],
+    start_offset: u16,
+    format: LuminaireFormat,
+) -> ParsedLuminaire
+    ensures { λ r. ⌜ r ≡ recordOf (parsed .«content_format_id») (numbersOf parsed) (textsIn «start_offset» (now (bytes .entry)) (some format)) ⌝ }
+{
+    let at = start_offset;
+    let distribution = format.has_light_distribution();
+    let extended = format.has_extended_block();
+    let mut filled = parsed;
+    filled.luminaire_colour = text32(bytes, at, LUMINAIRE_COLOUR, true);
+    filled.luminaire_identification = text_region(
+        bytes,
+        at,
+        LUMINAIRE_IDENTIFICATION,
+        TextLimit::Bytes64,
+    );
+    filled.light_distribution = text32(bytes, at, LIGHT_DISTRIBUTION, distribution);
+    filled.oem_name = text32(bytes, at, OEM_NAME, extended);
+    filled.customer_stocking_number = text32(bytes, at, CUSTOMER_STOCKING_NUMBER, extended);
+    filled.free_use = text32(bytes, at, FREE_USE, extended);
+    filled
+}
+
+// A text of at most 32 bytes, where the format has it.
+fn text32(bytes: &[u8], start_offset: u16, region: TextRegion, has: bool) -> FixedText
+    ensures { λ r. ⌜ r ≡ textIn Bytes32 (cond has (fieldAt «start_offset» (now (bytes .entry)) (region .offset) (region .len)) none) ⌝ }
+{
+    if !has {
+        return FixedText::absent(TextLimit::Bytes32);
+    }
+    text_region(bytes, start_offset, region, TextLimit::Bytes32)
 }
 
 // A text field as it is shown.

@@ -7,9 +7,9 @@ use native.Mathlib.Nat.{zero-add}
 use native.Mathlib.Omega.{arith}
 use borrow.Author.Needs.{needs}
 use lib.ListN.{length, take}
+use Rattle.bus.proofs.Lists.{sets-laid}
 use Rattle.bank.specs.Fields.{luminaireFields}
 use Rattle.records.specs.Writes.{gather, storesAt, offsetsOf, valuesOf, planStores}
-use Rattle.records.proofs.Laying.{sets-laid}
 use Rattle.records.proofs.Table.{table-within, all-stores}
 use Rattle.records.proofs.Stores.{Laid, none-laid, laid-same, field-laid, field-few, offsets-kept, values-kept}
 use Rattle.records.proofs.luminaire_write.lay_stores.Statement.{statement}

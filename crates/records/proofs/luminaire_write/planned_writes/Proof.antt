@@ -6,9 +6,9 @@ use Prim.Native.Nat.{_-_, _*_, _≤_}
 use native.Mathlib.Omega.{arith}
 use borrow.Author.Needs.{needs}
 use lib.ListN.{take}
+use Rattle.bus.proofs.Lists.{sets-laid}
 use Rattle.bank.specs.Fields.{luminaireFields}
 use Rattle.records.specs.Writes.{gather, writesAt, plannedWrites, indices, lengths, allBytes}
-use Rattle.records.proofs.Laying.{sets-laid}
 use Rattle.records.proofs.Table.{table-within}
 use Rattle.records.proofs.Planned.{Planned, none-planned, field-planned, counts-few, all-planned, fields-kept, lens-kept, bytes-kept, planned-as}
 use Rattle.records.proofs.luminaire_write.planned_writes.Statement.{statement}

@@ -5,7 +5,7 @@ use mathlib.Core.Option.{some}
 use borrow.Author.Needs.{needs}
 use lib.ListN.{length}
 use lib.Seq.{sets}
-use Rattle.records.proofs.Laying.{sets-laid}
+use Rattle.bus.proofs.Lists.{sets-laid}
 use Rattle.stores.specs.File.{parsed}
 use Rattle.stores.specs.Listing.{printed}
 use Rattle.stores.proofs.Heads.{plan-good, good-long, told-plan}

@@ -9,12 +9,13 @@ use lib.ListN.{length}
 use lib.Seq.{sets, length-take-le}
 use Rattle.stores.specs.Listing.{storesWord}
 use Rattle.stores.proofs.Lines.{decimal-short, counted-length}
-use Rattle.stores.proofs.Answers.{Accepted, told-accepted, told-refused, refused-text, accepted-few, offsets-fit, values-fit, accepted-laid}
+use Rattle.records.proofs.Room.{AcceptedPlan, told-accepted, told-refused, accepted-few, offsets-fit, values-fit}
+use Rattle.stores.proofs.Answers.{refused-text, accepted-laid}
 use Rattle.stores.proofs.listing.put_plan.Statement.{statement}
 use Rattle.stores.proofs.listing.put_plan.Tie as tie
 
 -- what is known where the plan is accepted
-accepted : (c : tie.After-count) → (let s = c .before .before .before .before in let a = s .before .before .before .before .before .args in Accepted (a .plan) (a .text .now) (c .count .given .0 .0) (s .stores .last .1 .1 .0) (s .stores .last .1 .1 .1 .0))
+accepted : (c : tie.After-count) → (let s = c .before .before .before .before in let a = s .before .before .before .before .before .args in AcceptedPlan (a .plan) (a .text .now) (c .count .given .0 .0) (s .stores .last .1 .1 .0) (s .stores .last .1 .1 .1 .0))
 accepted c =
     let s = c .before .before .before .before in
     let a = s .before .before .before .before .before .args in

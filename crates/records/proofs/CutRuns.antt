@@ -1,0 +1,146 @@
+-- Laws of what a run of a cut plan answers and leaves, and that the claim holds of it.
+-- Assumes nothing.
+use mathlib.Core.Path.{_≡_, refl, sym, ap, _∙_}
+use mathlib.Core.Bool.{Bool, _||_}
+use mathlib.Core.List.{List, map}
+use mathlib.Core.Option.{Option, none, some}
+use Prim.Native.Nat.{ℕ, _≤_}
+use native.Mathlib.Omega.{arith}
+use lib.Dec.{ltb}
+use lib.ListN.{length, take, replicate, length-replicate}
+use Rattle.bus.specs.Value.{laidInto}
+use Rattle.bus.proofs.Lists.{no-element}
+use Rattle.bus.proofs.Tests.{by-test}
+use Rattle.bank.specs.declared.OptionUsize.{OptionUsize}
+use Rattle.bank.specs.declared.refusal.Refusal.{Refusal}
+use Rattle.bank.specs.declared.refusal.OptionRefusal.{OptionRefusal}
+use Rattle.bank.specs.declared.read_out.ReadOut.{ReadOut}
+use Rattle.bank.specs.declared.read_out.ResultReadOut.{ResultReadOut}
+use Rattle.bank.specs.declared.read_out.ResultReadOut.the-variants.{Ok, Err}
+use Rattle.bank.specs.declared.luminaire_write.Bank1Layout.{Bank1Layout}
+use Rattle.bank.specs.Options.{optionRefusal}
+use Rattle.bank.specs.Refusal.{firstOf, checked}
+use Rattle.bank.specs.Fields.{fromHeader}
+use Rattle.bank.specs.Chunk.{chunkLen}
+use Rattle.bank.specs.ReadOut.{fresh, starting}
+use Rattle.bank.specs.Calls.{Call, State, stateOf, after, answersOf, answerNumber}
+use Rattle.bank.proofs.Options.{told-refusal}
+use Rattle.records.specs.declared.luminaire_write.LuminaireNumbers.{LuminaireNumbers}
+use Rattle.records.specs.declared.luminaire_write.Plan.{Plan}
+use Rattle.records.specs.Plan.{planChecks, storesOf}
+use Rattle.records.specs.Cut.{cutBank}
+use Rattle.records.specs.Claim.{Accepted, begin}
+use Rattle.records.specs.CutRun.{planFor, runChecks, cutOf, bankBehind, readBack, bufferBehind, answersBehind, EveryRunReadsBack}
+use Rattle.records.proofs.Stages.{some-same}
+use Rattle.records.proofs.Plans.{plan-accepted}
+use Rattle.records.proofs.Cutting.{length-stored}
+use Rattle.records.proofs.Room.{stores-bound}
+use Rattle.records.proofs.Claim.{cut-plan-reads-back}
+
+abbrev outIn : ResultReadOut → Option ReadOut
+outIn (Ok r) = some r
+outIn (Err e) = none
+
+abbrev refusedIn : ResultReadOut → Option Refusal
+refusedIn (Ok r) = none
+refusedIn (Err e) = some e
+
+module _ (numbers : LuminaireNumbers) (which : OptionUsize) (text old : List ℕ) where
+  abbrev checks : Option Refusal
+  checks = firstOf (runChecks numbers which text old)
+
+  -- what the start of the read-out tells
+  abbrev tooLong : Bool
+  tooLong = ltb 256 (length old) || ltb (length old) 0
+
+  pub start-refused : {s : ResultReadOut} {r : Refusal} → s ≡ starting 1 (length old) → s ≡ Err r → checks ≡ some r
+  unfolding firstOf runChecks
+  start-refused e t =
+      by-test tooLong
+      (λ long. rw long (rw long at (sym (ap refusedIn e) ∙ ap refusedIn t)))
+      (λ short. no-element (rw short at (sym (ap refusedIn e) ∙ ap refusedIn t)))
+
+  pub record Started (out : ReadOut) : Type 0 where
+    pub is : out ≡ fresh 1 (length old)
+    pub then-plan : checks ≡ firstOf (planChecks (planFor numbers which text old) text)
+
+  pub start-accepted : {s : ResultReadOut} {out : ReadOut} → s ≡ starting 1 (length old) → s ≡ Ok out → Started out
+  unfolding firstOf runChecks
+  start-accepted e t =
+      by-test tooLong
+      (λ long. no-element (rw long at (sym (ap outIn e) ∙ ap outIn t)))
+      (λ short. record { is = sym (some-same (rw short at (sym (ap outIn e) ∙ ap outIn t))); then-plan = rw short })
+
+  -- the plan is that of the bank's own header
+  pub same-plan : {layout : Bank1Layout} → layout ≡ fromHeader old → record { layout = layout; numbers = numbers; «text_field» = which } ≡ planFor numbers which text old
+  same-plan e = ap (λ (l : Bank1Layout). record { layout = l; numbers = numbers; «text_field» = which }) e
+
+  module _ (k : ℕ) (buffer : List ℕ) (calls : List Call) (answers : List ℕ) where
+    -- what a run answers, and what it leaves in the bank, the buffer and the answers
+    abbrev Ran : ResultReadOut → List ℕ → List ℕ → List ℕ → Type 0
+    Ran r bank′ buffer′ answers′ =
+        (r ≡ readBack numbers which text old k buffer calls)
+        × ((bank′ ≡ bankBehind numbers which text old k)
+        × ((buffer′ ≡ bufferBehind numbers which text old k buffer calls)
+        × (answers′ ≡ answersBehind numbers which text old k buffer calls answers)))
+
+    pub run-refused : {r : Refusal} → checks ≡ some r → Ran (Err r) old buffer answers
+    run-refused e = (rw e, (rw e, (rw e, rw e)))
+
+    -- by the plan, which then has made no store
+    pub plan-refuses : {out : ReadOut} {p : Plan} {bank′ : List ℕ} {e : OptionRefusal} {r : Refusal} → Started out → p ≡ planFor numbers which text old
+        → e ≡ optionRefusal (firstOf (planChecks p text)) → bank′ ≡ checked (planChecks p text) (λ _. old) (cutBank (storesOf p text) k old) → e ≡ OptionRefusal.Some r
+        → Ran (Err r) bank′ buffer answers
+    plan-refuses {out} {p} s q a b t =
+        let refused = told-refusal (firstOf (planChecks p text)) a t in
+        let all = run-refused (s .then-plan ∙ ap (λ (p : Plan). firstOf (planChecks p text)) (sym q) ∙ refused) in
+        (all .0, (b ∙ (rw refused) ∙ all .1 .0, all .1 .1))
+
+    pub run-accepted : {out last : ReadOut} {p : Plan} {bank′ buffer′ answers′ : List ℕ} {e : OptionRefusal} → Started out → p ≡ planFor numbers which text old
+        → e ≡ optionRefusal (firstOf (planChecks p text)) → bank′ ≡ checked (planChecks p text) (λ _. old) (cutBank (storesOf p text) k old) → e ≡ OptionRefusal.None
+        → last ≡ after chunkLen (stateOf out buffer) calls .out → buffer′ ≡ after chunkLen (stateOf out buffer) calls .buffer
+        → answers′ ≡ laidInto (map answerNumber (answersOf chunkLen (stateOf out buffer) calls)) answers
+        → Ran (Ok last) bank′ buffer′ answers′
+    run-accepted {out} {last} {p} s q a b t l d n =
+        let sound = told-refusal (firstOf (planChecks p text)) a t in
+        let all = s .then-plan ∙ ap (λ (p : Plan). firstOf (planChecks p text)) (sym q) ∙ sound in
+        let cut = cutOf numbers which text old k in
+        let same : stateOf out buffer ≡ begin cut buffer =
+        ap (λ (r : ReadOut). stateOf r buffer) (s .is ∙ ap (fresh 1) (sym (length-stored (take k (storesOf (planFor numbers which text old) text)) old))) in (
+          ap Ok (l ∙ ap (λ (x : State). after chunkLen x calls .out) same) ∙ sym (rw all),
+          (
+            b ∙ (rw sound) ∙ ap (λ (p : Plan). cutBank (storesOf p text) k old) q ∙ sym (rw all),
+            (d ∙ ap (λ (x : State). after chunkLen x calls .buffer) same ∙ sym (rw all), n ∙ ap (λ (x : State). laidInto (map answerNumber (answersOf chunkLen x calls)) answers) same ∙ sym (rw all)),
+          ),
+        )
+
+-- ---- the claim
+
+-- a run that is not refused has an accepted plan
+ran-accepted : (numbers : LuminaireNumbers) (which : OptionUsize) (text old : List ℕ) (k : ℕ) (buffer : List ℕ) (calls : List Call) {out : ReadOut}
+    → readBack numbers which text old k buffer calls ≡ Ok out → Accepted old (planFor numbers which text old) text
+unfolding firstOf runChecks
+ran-accepted numbers which text old k buffer calls {out} e = go (firstOf (runChecks numbers which text old)) refl
+  where
+    p : Plan
+    p = planFor numbers which text old
+
+    room : List ℕ
+    room = replicate 256 0
+
+    plan-passed : firstOf (runChecks numbers which text old) ≡ none → firstOf (planChecks p text) ≡ none
+    plan-passed f =
+        by-test (tooLong numbers which text old)
+        (λ long. no-element (sym (rw long at f)))
+        (λ short. rw short at f)
+
+    go : (o : Option Refusal) → firstOf (runChecks numbers which text old) ≡ o → Accepted old p text
+    go (some r) f = no-element (rw f at (ap outIn e))
+    go none f =
+        let few : length (storesOf p text) ≤ length room = omega (arith, stores-bound numbers which text, length-replicate {A = ℕ} 256 0) in
+        let done = plan-accepted p text room room (plan-passed f) few few refl refl refl in
+        record { layout = refl; offsets = room; values = room; count = length (storesOf p text); accepts = sym (done .0) }
+
+pub every-run-reads-back : EveryRunReadsBack
+every-run-reads-back numbers which text old k buffer calls out is-old e held =
+    cut-plan-reads-back old (planFor numbers which text old) text k (cutOf numbers which text old k) buffer calls is-old (ran-accepted numbers which text old k buffer calls e) refl held

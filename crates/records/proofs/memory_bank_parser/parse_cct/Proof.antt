@@ -1,0 +1,39 @@
+-- `records::memory_bank_parser::parse_cct` meets its contract, by the number that is found.
+-- Assumes nothing.
+use borrow.Author.Needs.{needs}
+use Rattle.bus.specs.declared.part251.LuminaireFormat.the-variants.{V3}
+use Rattle.bank.specs.declared.luminaire_write.NumberRule.{NumberRule}
+use Rattle.records.specs.Luminaire.{valueIn}
+use Rattle.records.proofs.Options.{told-u16}
+use Rattle.records.proofs.Luminaire.{value-of}
+use Rattle.records.proofs.memory_bank_parser.parse_cct.Statement.{statement}
+use Rattle.records.proofs.memory_bank_parser.parse_cct.Tie as tie
+
+u16-at-requires : tie.Need-u16-at-requires
+u16-at-requires c κs = search needs
+
+enum-known-raw : tie.Need-enum-known-raw
+enum-known-raw c = search needs
+
+cct-value-requires : tie.Need-cct-value-requires
+cct-value-requires c κs = search needs
+
+enum-told : tie.Need-enum-told
+enum-told c = search needs
+
+returns : tie.Need-returns
+returns c =
+    let b = c .before .before .before .before in
+    let a = b .before .before .args in
+    rw (value-of (a .start-offset) (a .bytes .now) 0x21 2 (valueIn NumberRule.Cct V3) (told-u16 _ (b .u16-at .ensures) (c .before .before .raw .given .1)), c .cct-value .ensures)
+
+returns-2 : tie.Need-returns-2
+returns-2 c =
+    let b = c .before .before in
+    let a = b .before .before .args in
+    rw (value-of (a .start-offset) (a .bytes .now) 0x21 2 (valueIn NumberRule.Cct V3) (told-u16 _ (b .u16-at .ensures) (c .enum-told .given .1)))
+
+pub parse-cct-spec : {M : Type 1} → statement M
+parse-cct-spec =
+    tie.close
+    (tie.spec u16-at-requires enum-known-raw cct-value-requires enum-told returns returns-2)

@@ -1,0 +1,62 @@
+-- 01, "A cut plan, read back", as one call runs it whole: a plan for a bank, its stores up to the cut, and the calls. What
+-- the call leaves and answers is what the claim speaks of.
+-- Assumes nothing.
+use mathlib.Core.Path.{_≡_}
+use mathlib.Core.List.{List, _∷_, map}
+use Prim.Native.Nat.{ℕ}
+use lib.ListN.{length}
+use Rattle.bus.specs.Value.{laidInto}
+use Rattle.bank.specs.declared.OptionUsize.{OptionUsize}
+use Rattle.bank.specs.declared.read_out.ReadOut.{ReadOut}
+use Rattle.bank.specs.declared.read_out.ResultReadOut.{ResultReadOut}
+use Rattle.bank.specs.Refusal.{Check, checked}
+use Rattle.bank.specs.Fields.{fromHeader}
+use Rattle.bank.specs.Chunk.{chunkLen}
+use Rattle.bank.specs.ReadOut.{fresh, invalid}
+use Rattle.bank.specs.Calls.{Call, State, answersOf, after, HoldsChunks, answerNumber}
+use Rattle.records.specs.declared.luminaire_write.LuminaireNumbers.{LuminaireNumbers}
+use Rattle.records.specs.declared.luminaire_write.Plan.{Plan}
+use Rattle.records.specs.Plan.{planChecks, storesOf}
+use Rattle.records.specs.Cut.{cutBank}
+use Rattle.records.specs.Claim.{OldBank, begin, ReadsBack}
+
+module _ (numbers : LuminaireNumbers) (which : OptionUsize) (text : List ℕ) (old : List ℕ) where
+  -- "the plan's layout is `Bank1Layout::from_header` of it"
+  abbrev pub planFor : Plan
+  planFor = record { layout = fromHeader old; numbers = numbers; «text_field» = which }
+
+  -- "12 length over 256", then the refusals of the plan
+  unfoldable pub runChecks : List Check
+  runChecks = invalid (fresh 1 (length old)) ∷ planChecks planFor text
+
+  module _ (k : ℕ) where
+    abbrev pub cutOf : List ℕ
+    cutOf = cutBank (storesOf planFor text) k old
+
+    -- the bank behind the call
+    abbrev pub bankBehind : List ℕ
+    bankBehind = checked runChecks (λ _. old) cutOf
+
+    module _ (buffer : List ℕ) (calls : List Call) where
+      abbrev pub stateBehind : State
+      stateBehind = after chunkLen (begin cutOf buffer) calls
+
+      -- the read-out last handed back
+      abbrev pub readBack : ResultReadOut
+      readBack = checked runChecks ResultReadOut.Err (ResultReadOut.Ok (stateBehind .out))
+
+      abbrev pub bufferBehind : List ℕ
+      bufferBehind = checked runChecks (λ _. buffer) (stateBehind .buffer)
+
+      -- the answer of each call, in a number
+      abbrev pub answersBehind : List ℕ → List ℕ
+      answersBehind answers =
+          checked runChecks (λ _. answers) (laidInto (map answerNumber (answersOf chunkLen (begin cutOf buffer) calls)) answers)
+
+-- The claim holds of every run that is not refused.
+abbrev pub EveryRunReadsBack : Type 0
+EveryRunReadsBack =
+    (numbers : LuminaireNumbers) (which : OptionUsize) (text old : List ℕ) (k : ℕ) (buffer : List ℕ) (calls : List Call) (out : ReadOut) →
+    OldBank old → readBack numbers which text old k buffer calls ≡ ResultReadOut.Ok out →
+    HoldsChunks chunkLen (cutOf numbers which text old k) (begin (cutOf numbers which text old k) buffer) calls →
+    ReadsBack chunkLen old (planFor numbers which text old) text k (cutOf numbers which text old k) buffer calls
