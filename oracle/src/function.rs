@@ -4,7 +4,7 @@ use std::io;
 
 use crate::line::{Args, Line, Put, Take};
 use crate::rng::Rng;
-use crate::{banks, bus_unit, identity, layout, luminaire_write, memory_bank_parser, part251, read_out};
+use crate::{banks, bus_unit, cut_plan, identity, layout, luminaire_write, memory_bank_parser, part251, read_out};
 
 /// How many cases to make.
 #[derive(Clone, Copy)]
@@ -128,7 +128,7 @@ impl<A: Put + Take, R: Put> Function for Row<A, R> {
 }
 
 /// The tables, each at the high digit of its numbers.
-const TABLES: [&[&dyn Function]; 8] = [
+const TABLES: [&[&dyn Function]; 9] = [
     banks::FUNCTIONS,
     layout::FUNCTIONS,
     part251::FUNCTIONS,
@@ -137,6 +137,7 @@ const TABLES: [&[&dyn Function]; 8] = [
     identity::FUNCTIONS,
     bus_unit::FUNCTIONS,
     memory_bank_parser::FUNCTIONS,
+    cut_plan::FUNCTIONS,
 ];
 
 /// Every function, in the order of the numbers.

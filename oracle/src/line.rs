@@ -47,6 +47,11 @@ impl<'a> Args<'a> {
         T::take(self)
     }
 
+    /// As many values.
+    pub fn several<T: Take>(&mut self, count: usize) -> Option<Vec<T>> {
+        (0..count).map(|_| self.take()).collect()
+    }
+
     /// The value whose place among these is the next byte.
     pub fn one_of<T: Copy>(&mut self, values: &[T]) -> Option<T> {
         let place: u8 = self.take()?;
@@ -123,7 +128,7 @@ macro_rules! tuples {
     )*};
 }
 
-tuples!((A B)(A B C)(A B C D)(A B C D E F G H));
+tuples!((A B)(A B C)(A B C D)(A B C D E F)(A B C D E F G H));
 
 impl Put for () {
     fn put(&self, _: &mut Line) {}
@@ -225,7 +230,7 @@ impl<T: Put> Put for Vec<T> {
 impl<T: Take> Take for Vec<T> {
     fn take(args: &mut Args) -> Option<Self> {
         let length: u16 = args.take()?;
-        (0..length).map(|_| args.take()).collect()
+        args.several(length.into())
     }
 }
 

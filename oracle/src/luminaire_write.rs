@@ -23,8 +23,8 @@ use writes::{
     writes_cases, HeldCase, WriteCase,
 };
 
-pub use plan::{longest, planned_stores, random_layout_and_wanted, wanting, with_bit};
-pub use wanted::{number_fields, telling_u32s, text_fields, Numbers, Wanted};
+pub use plan::{longest, planned_stores, random_layout_and_wanted, wanting, with_bit, Refusal};
+pub use wanted::{accepted_number, number_fields, random_wanted, telling_u32s, text_fields, Numbers, Wanted};
 
 pub const FUNCTIONS: &[&dyn Function] = &[
     &Row::new(0x30, "LUMINAIRE_FIELDS, one entry", |index: usize| LUMINAIRE_FIELDS.get(index).copied(), indices),

@@ -3,7 +3,9 @@
 mod banks;
 mod block;
 mod bus_unit;
+mod claim;
 mod compare;
+mod cut_plan;
 mod function;
 mod identity;
 mod layout;
@@ -11,8 +13,10 @@ mod line;
 mod luminaire_write;
 mod memory_bank_parser;
 mod part251;
+mod program;
 mod read_out;
 mod rng;
+mod round_trip;
 mod stores;
 
 use std::io::{self, Write};
@@ -22,11 +26,13 @@ use std::time::{SystemTime, UNIX_EPOCH};
 use std::{env, fs};
 
 use block::{add_line, answers, fill_up, has_room, read_block};
+use claim::claim;
 use compare::compare;
 use function::{functions, Scale, Source};
+use round_trip::round_trip;
 
-const USAGE: &str = "usage: oracle compare PROGRAM [SEED] | oracle list DIR | oracle answer \
-    | oracle stores PROGRAM [SEED] | oracle files DIR";
+const USAGE: &str = "usage: oracle compare PROGRAM [SEED] | oracle claim PROGRAM [SEED] | oracle round-trip PROGRAM \
+    | oracle list DIR | oracle answer | oracle stores PROGRAM [SEED] | oracle files DIR";
 
 /// The list is the same every time.
 const LIST_SEED: u64 = 251;
@@ -47,6 +53,9 @@ fn run() -> io::Result<()> {
     match args[..] {
         ["compare", program] => compare(program, seed_of_the_clock()),
         ["compare", program, seed] => compare(program, seed.parse().map_err(io::Error::other)?),
+        ["claim", program] => claim(program, seed_of_the_clock()),
+        ["claim", program, seed] => claim(program, seed.parse().map_err(io::Error::other)?),
+        ["round-trip", program] => round_trip(program),
         ["list", dir] => list(Path::new(dir)),
         ["answer"] => answer_input(),
         ["stores", program] => stores::check_program(program, seed_of_the_clock()),

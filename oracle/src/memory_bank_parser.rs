@@ -1,14 +1,16 @@
 //! The functions of `memory_bank_parser.rs`. Their cases are made in the files of its folder.
 
 mod fields;
+mod luminaire;
 mod records;
 mod texts;
 
-use dali2rust_domain::registry::BankReading;
+use dali2rust_contracts::msg::FixedText;
+use dali2rust_domain::registry::{BankReading, LuminaireValue};
 use dali2rust_registry_runtime::memory_bank_parser::asked::{
-    byte, escape_into_bounded, parse_bank0_bus_unit, parse_bank0_identity, parse_bank1_profile, parse_energy_bank,
-    parse_gear_diagnostics, parse_luminaire_maintenance, parse_reading, parse_scale, parse_source_diagnostics,
-    text_region, Member,
+    byte, escape_into_bounded, parse_bank0_bus_unit, parse_bank0_identity, parse_bank1_luminaire, parse_bank1_profile,
+    parse_energy_bank, parse_gear_diagnostics, parse_luminaire_maintenance, parse_reading, parse_scale,
+    parse_source_diagnostics, text_region, Member,
 };
 
 use crate::function::{Function, Row};
@@ -16,9 +18,11 @@ use crate::line::{Args, Line, Put, Sequence, Take};
 use fields::{
     byte_cases, random_byte, random_reading, random_scale, reading_cases, scale_cases, ByteCase, ReadingCase, ScaleCase,
 };
+use luminaire::{every_number, luminaire_cases, random_luminaire};
 use records::{random_record, record_cases, RecordCase};
 use texts::{escape_cases, every_sequence, random_escape, random_text_case, text_cases, EscapeCase, TextCase};
 
+pub use luminaire::random_bank;
 pub use texts::{bank_text_cases, random_bank_text, BankTextCase};
 
 pub const FUNCTIONS: &[&dyn Function] = &[
@@ -54,6 +58,9 @@ pub const FUNCTIONS: &[&dyn Function] = &[
     .random(random_record::<207>),
     &Row::new(0x7A, "text_region", text_of_region, text_cases).random(random_text_case),
     &Row::new(0x7B, "escape_into_bounded", escaped, escape_cases).domain(every_sequence).random(random_escape),
+    &Row::new(0x7C, "parse_bank1_luminaire", |case| members(parse_bank1_luminaire, case), luminaire_cases)
+        .domain(every_number)
+        .random(random_luminaire),
 ];
 
 fn members(parser: fn(&[u8], u16) -> Vec<Member>, (start, bytes): RecordCase) -> Sequence<Member> {
@@ -64,10 +71,14 @@ impl Put for Member {
     fn put(&self, line: &mut Line) {
         match self {
             Self::Byte(byte) => line.put(byte),
+            Self::Id(id) => line.put(id),
             Self::Number(number) => line.put(number),
             Self::Scale(scale) => line.put(scale),
             Self::Reading(reading) => line.put(reading),
             Self::Condition(flag, counter) => line.put(&(*flag, *counter)),
+            Self::Value(value) => line.put(value),
+            Self::Text32(text) => line.put(&Text::of(text.as_ref(), Limit::Of32)),
+            Self::Text64(text) => line.put(&Text::of(text.as_ref(), Limit::Of64)),
         }
     }
 }
@@ -77,6 +88,19 @@ impl Put for BankReading {
     fn put(&self, line: &mut Line) {
         assert!(self.tmask_since_ms.is_none());
         line.put(&(self.value, self.not_implemented, self.temporarily_unavailable, self.saturated));
+    }
+}
+
+impl Put for LuminaireValue {
+    fn put(&self, line: &mut Line) {
+        line.put(&(self.raw, self.value, self.part209_implemented));
+    }
+}
+
+impl Take for LuminaireValue {
+    fn take(args: &mut Args) -> Option<Self> {
+        let (raw, value, part209_implemented) = args.take()?;
+        Some(Self { raw, value, part209_implemented })
     }
 }
 
@@ -102,32 +126,47 @@ impl Take for Limit {
 }
 
 /// The bytes of a `FixedText` if there is one, and its limit.
-struct Text {
-    bytes: Option<Vec<u8>>,
+pub struct Text {
+    pub bytes: Option<Vec<u8>>,
     limit: Limit,
 }
+
+impl Text {
+    fn of<const N: usize>(text: Option<&FixedText<N>>, limit: Limit) -> Self {
+        Self { bytes: text.map(|text| text.as_bytes().to_vec()), limit }
+    }
+}
+
+/// How many bytes a line has for a text of any length.
+const TEXT_BYTES: usize = 64;
 
 impl Put for Text {
     fn put(&self, line: &mut Line) {
         let bytes = self.bytes.as_deref().unwrap_or_default();
-        let mut filled_up = [0u8; 64];
+        let mut filled_up = [0u8; TEXT_BYTES];
         filled_up[..bytes.len()].copy_from_slice(bytes);
         line.put(&(self.bytes.is_some(), self.limit, bytes.len(), filled_up));
     }
 }
 
+impl Take for Text {
+    fn take(args: &mut Args) -> Option<Self> {
+        let (present, limit, length, filled_up): (bool, _, usize, [u8; TEXT_BYTES]) = args.take()?;
+        let bytes = filled_up.get(..length)?.to_vec();
+        Some(Self { bytes: present.then_some(bytes), limit })
+    }
+}
+
 fn text_of_region((start, region, limit, bytes): TextCase) -> Text {
-    let bytes = match limit {
-        Limit::Of32 => text_region::<32>(&bytes, start, region).map(|text| text.as_bytes().to_vec()),
-        Limit::Of64 => text_region::<64>(&bytes, start, region).map(|text| text.as_bytes().to_vec()),
-    };
-    Text { bytes, limit }
+    match limit {
+        Limit::Of32 => Text::of(text_region::<32>(&bytes, start, region).as_ref(), limit),
+        Limit::Of64 => Text::of(text_region::<64>(&bytes, start, region).as_ref(), limit),
+    }
 }
 
 fn escaped((limit, raw): EscapeCase) -> Text {
-    let bytes = match limit {
-        Limit::Of32 => escape_into_bounded::<32>(&raw).as_bytes().to_vec(),
-        Limit::Of64 => escape_into_bounded::<64>(&raw).as_bytes().to_vec(),
-    };
-    Text { bytes: Some(bytes), limit }
+    match limit {
+        Limit::Of32 => Text::of(Some(&escape_into_bounded::<32>(&raw)), limit),
+        Limit::Of64 => Text::of(Some(&escape_into_bounded::<64>(&raw)), limit),
+    }
 }

@@ -1,39 +1,45 @@
-//! The read-out. The Rust has none: here is a plain second implementation, on the Rust's `chunk_len`.
+//! The read-out. The Rust has none: here is a plain second implementation, on the Rust's `chunk_len`. Lists of calls
+//! are in its folder.
+
+mod calls;
 
 use dali2rust_domain::dali::banks::layout::chunk_len;
 
 use crate::function::{Function, Row, Scale, Source};
-use crate::line::{Args, Line, Output, Put, Sequence, Take};
+use crate::line::{Args, Line, Output, Put, Take};
 use crate::rng::Rng;
+use calls::{answered, list_cases, random_list};
+
+pub use calls::{random_answers, random_calls, run, whole_list, Call, CallList, REFUSED};
 
 pub const FUNCTIONS: &[&dyn Function] = &[
     &Row::new(0x40, "ReadOut::starting", starting, start_cases).random(random_start),
     &Row::new(0x41, "ReadOut::done", done, read_outs).random(random_read_out),
     &Row::new(0x42, "ReadOut::wanting", |(read_out, budget)| wanting(read_out, budget), want_cases).random(random_want),
     &Row::new(0x43, "ReadOut::accepting", accepted, accept_cases).random(random_accept),
-    &Row::new(0x44, "a list of calls", answered, list_cases).random(random_list),
+    &Row::new(0x44, "call_list::run", answered, list_cases).random(random_list),
 ];
 
 /// Any three numbers, also those that no call hands out.
 #[derive(Clone, Copy)]
-struct ReadOut {
-    bank: u8,
-    length: u16,
-    next: u16,
+pub struct ReadOut {
+    pub bank: u8,
+    pub length: u16,
+    pub next: u16,
 }
 
-const MAX_LENGTH: u16 = 256;
+pub const MAX_LENGTH: u16 = 256;
 
 /// Each refusal with its number.
 #[derive(Clone, Copy)]
-enum Refusal {
+pub enum Refusal {
     NoBudget = 11,
     BadReadOut = 12,
     ShortBuffer = 13,
     OtherLength = 14,
 }
 
-fn starting((bank, length): (u8, u16)) -> Result<ReadOut, Refusal> {
+pub fn starting((bank, length): (u8, u16)) -> Result<ReadOut, Refusal> {
     sound(ReadOut { bank, length, next: 0 })
 }
 
@@ -81,45 +87,6 @@ fn accepted((read_out, budget, chunk, mut buffer): AcceptCase) -> (Result<ReadOu
     (answer, Output(buffer))
 }
 
-enum Call {
-    Wanting(u16),
-    Accepting(u16, Vec<u8>),
-}
-
-enum Answer {
-    Wanted(Result<Option<u16>, Refusal>),
-    Accepted(Result<ReadOut, Refusal>),
-}
-
-impl Call {
-    /// Answers the call. The read-out becomes the one handed back, if there is one.
-    fn answer(&self, read_out: &mut ReadOut, buffer: &mut [u8]) -> Answer {
-        match self {
-            Self::Wanting(budget) => Answer::Wanted(wanting(*read_out, *budget)),
-            Self::Accepting(budget, chunk) => {
-                let answer = accepting(*read_out, *budget, chunk, buffer);
-                *read_out = answer.unwrap_or(*read_out);
-                Answer::Accepted(answer)
-            }
-        }
-    }
-
-    /// How many bytes a request has for the call.
-    fn len(&self) -> usize {
-        match self {
-            Self::Wanting(_) => 3,
-            Self::Accepting(_, chunk) => 5 + chunk.len(),
-        }
-    }
-}
-
-type ListCase = (ReadOut, Vec<u8>, Sequence<Call>);
-
-fn answered((mut read_out, mut buffer, calls): ListCase) -> (Sequence<Answer>, ReadOut, Output) {
-    let answers = calls.0.iter().map(|call| call.answer(&mut read_out, &mut buffer)).collect();
-    (Sequence(answers), read_out, Output(buffer))
-}
-
 impl Put for ReadOut {
     fn put(&self, line: &mut Line) {
         line.put(&(self.bank, self.length, self.next));
@@ -136,37 +103,6 @@ impl Take for ReadOut {
 impl Put for Refusal {
     fn put(&self, line: &mut Line) {
         line.put(&(*self as u8));
-    }
-}
-
-impl Put for Call {
-    fn put(&self, line: &mut Line) {
-        match self {
-            Self::Wanting(budget) => line.put(&(0u8, *budget)),
-            Self::Accepting(budget, chunk) => {
-                line.put(&(1u8, *budget));
-                line.put(chunk);
-            }
-        }
-    }
-}
-
-impl Take for Call {
-    fn take(args: &mut Args) -> Option<Self> {
-        match args.take::<u8>()? {
-            0 => args.take().map(Self::Wanting),
-            1 => Some(Self::Accepting(args.take()?, args.take()?)),
-            _ => None,
-        }
-    }
-}
-
-impl Put for Answer {
-    fn put(&self, line: &mut Line) {
-        match self {
-            Self::Wanted(answer) => line.put(answer),
-            Self::Accepted(answer) => line.put(answer),
-        }
     }
 }
 
@@ -280,7 +216,7 @@ fn random_chunk(rng: &mut Rng, read_out: ReadOut, budget: u16) -> Vec<u8> {
 }
 
 /// Mostly as long as the read-out, or a little longer.
-fn random_buffer(rng: &mut Rng, read_out: ReadOut) -> Vec<u8> {
+pub fn random_buffer(rng: &mut Rng, read_out: ReadOut) -> Vec<u8> {
     let needed = usize::from(read_out.length.min(MAX_LENGTH));
     let length = match rng.below(8) {
         0 => rng.below(300),
@@ -288,83 +224,4 @@ fn random_buffer(rng: &mut Rng, read_out: ReadOut) -> Vec<u8> {
         _ => needed + rng.below(4),
     };
     rng.bytes(length)
-}
-
-fn list_cases(source: &mut Source) -> Vec<ListCase> {
-    let telling = vec![
-        (202, 16, 5),
-        (202, 16, 8),
-        (202, 16, 1),
-        (202, 10, 20),
-        (1, 40, 6),
-        (9, 10, 4),
-        (205, 29, 5),
-        (206, 33, 8),
-        (207, 8, 7),
-        (207, 0, 1),
-    ];
-    let whole = source.scale.pick(every_whole(), telling);
-    whole.into_iter().map(|(bank, length, budget)| whole_read_out(&mut source.rng, bank, length, budget)).collect()
-}
-
-fn every_whole() -> Vec<(u8, u16, u16)> {
-    let mut cases = Vec::new();
-    for bank in BANKS {
-        for length in (0..=64).chain([255, 256]) {
-            let budgets = (1..=12).chain([300]);
-            cases.extend(budgets.map(|budget| (bank, length, budget)));
-        }
-    }
-    cases
-}
-
-/// Reads a bank out, and asks for each chunk first. Once done, it offers an empty chunk and another.
-fn whole_read_out(rng: &mut Rng, bank: u8, length: u16, budget: u16) -> ListCase {
-    let start = ReadOut { bank, length, next: 0 };
-    let mut read_out = start;
-    let mut calls = Vec::new();
-    while let Ok(Some(wanted)) = wanting(read_out, budget) {
-        calls.push(Call::Wanting(budget));
-        calls.push(Call::Accepting(budget, rng.bytes(usize::from(wanted))));
-        read_out.next += wanted;
-    }
-    calls.push(Call::Wanting(budget));
-    calls.extend([0, 1].map(|length| Call::Accepting(budget, rng.bytes(length))));
-    (start, rng.bytes(usize::from(length) + 2), Sequence(calls))
-}
-
-/// How many bytes of calls to make: a request has 4,000 bytes at most, and has a buffer too.
-const CALLS_LEN: usize = 3_000;
-
-fn random_list(source: &mut Source) -> ListCase {
-    let start = random_read_out(source);
-    let buffer = random_buffer(&mut source.rng, start);
-    let calls = random_calls(source, start, buffer.clone());
-    (start, buffer, Sequence(calls))
-}
-
-/// Some calls. Where the read-out can get done, it is read to the end in some lists, and the calls come after that.
-fn random_calls(source: &mut Source, mut read_out: ReadOut, mut buffer: Vec<u8>) -> Vec<Call> {
-    let mut room = source.scale.pick(CALLS_LEN, 60);
-    let rng = &mut source.rng;
-    let ends = sound(read_out).is_ok() && buffer.len() >= usize::from(read_out.length);
-    let to_the_end = ends && rng.below(4) == 0;
-    let mut count = rng.below(21);
-    let mut calls = Vec::new();
-    while count > 0 && room > 0 {
-        let call = random_call(rng, read_out);
-        call.answer(&mut read_out, &mut buffer);
-        count -= usize::from(!to_the_end || done(read_out));
-        room = room.saturating_sub(call.len());
-        calls.push(call);
-    }
-    calls
-}
-
-fn random_call(rng: &mut Rng, read_out: ReadOut) -> Call {
-    let budget = random_budget(rng);
-    match rng.below(3) {
-        0 => Call::Wanting(budget),
-        _ => Call::Accepting(budget, random_chunk(rng, read_out, budget)),
-    }
 }

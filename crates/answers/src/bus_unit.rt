@@ -65,21 +65,11 @@ fn numbers_at(request: &[u8], at: usize) -> [u16; 8]
     ]
 }
 
-fn put_numbers(text: &mut [u8], n: usize, numbers: &[u16]) -> usize {
-    let mut m = n;
-    let mut i = 0;
-    while i < numbers.len() {
-        m = line::put_u16(text, m, numbers[i]);
-        i += 1;
-    }
-    m
-}
-
 // Lends an output, and puts it as the call left it.
 fn put_parts(parts: ImplementedParts, out: &mut [u16], text: &mut [u8], n: usize) -> usize {
     let count = parts.parts(out);
     let m = line::put_u64(text, n, count as u64);
-    put_numbers(text, m, out)
+    line::put_u16s(text, m, out)
 }
 
 fn parts(request: &[u8], text: &mut [u8], n: usize) -> usize {

@@ -13,6 +13,7 @@ use bus::OptionLuminaireFormat;
 use bus::OptionU8;
 use bus::OptionU64;
 use bus::ValueWidth;
+ghost use mathlib.Core.Path.{_≡_};
 ghost use Prim.Native.Nat.{_+_, _≤_};
 ghost use lib.ListN.{length};
 ghost use Rattle.io.specs.Counts.{Counts};
@@ -153,6 +154,21 @@ pub(crate) fn slice_at(request: &[u8], at: usize) -> &[u8]
     &request[start..start + len]
 }
 
+// The bytes of a lent slice of numbers of two bytes.
+pub(crate) fn u16_slice_at(request: &[u8], at: usize) -> &[u8]
+    requires { ⌜ at ≤ 4096 ⌝ }
+{
+    let start = at + 2;
+    if request.len() < start {
+        return &request[..0];
+    }
+    let len = u16_at(request, at) as usize * 2;
+    if request.len() - start < len {
+        return &request[..0];
+    }
+    &request[start..start + len]
+}
+
 // What is behind a lent slice.
 pub(crate) fn behind_slice(request: &[u8], at: usize) -> &[u8]
     requires { ⌜ at ≤ 4096 ⌝ }
@@ -162,6 +178,46 @@ pub(crate) fn behind_slice(request: &[u8], at: usize) -> &[u8]
         return &request[..0];
     }
     &request[end..]
+}
+
+// What is behind a lent slice of numbers of two bytes.
+pub(crate) fn behind_u16_slice(request: &[u8], at: usize) -> &[u8]
+    requires { ⌜ at ≤ 4096 ⌝ }
+{
+    let end = at + 2 + u16_at(request, at) as usize * 2;
+    if request.len() < end {
+        return &request[..0];
+    }
+    &request[end..]
+}
+
+// 2,048 zeros: a request has fewer numbers of two bytes.
+pub(crate) fn u16_buffer() -> [u16; 2048]
+    ensures { λ r. ⌜ 2048 ≡ length r ⌝ }
+{
+    [0; 2048]
+}
+
+fn u16_of(high: u8, low: u8) -> u16 {
+    high as u16 * 256 + low as u16
+}
+
+// Puts the numbers that bytes make, two to a number, at the start of space, as many as it has room for, and answers how
+// many.
+pub(crate) fn copy_u16s(bytes: &[u8], space: &mut [u16]) -> usize
+    ensures { λ r. ⌜ Counts r (now (space .exit)) ⌝ }
+{
+    let mut n = 0;
+    let mut i = 0;
+    while i + 1 < bytes.len() {
+        if space.len() <= n {
+            return n;
+        }
+        space[n] = u16_of(bytes[i], bytes[i + 1]);
+        n += 1;
+        i += 2;
+    }
+    n
 }
 
 // Copies bytes to the start of space, as many as it has room for, and answers how many.
@@ -285,6 +341,16 @@ pub(crate) fn put_slice(text: &mut [u8], n: usize, bytes: &[u8]) -> usize {
     let mut i = 0;
     while i < bytes.len() {
         m = put_u8(text, m, bytes[i]);
+        i += 1;
+    }
+    m
+}
+
+pub(crate) fn put_u16s(text: &mut [u8], n: usize, numbers: &[u16]) -> usize {
+    let mut m = n;
+    let mut i = 0;
+    while i < numbers.len() {
+        m = put_u16(text, m, numbers[i]);
         i += 1;
     }
     m

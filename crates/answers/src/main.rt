@@ -2,6 +2,7 @@
 // digits for each request on standard input, a line for each answer on standard output.
 mod banks;
 mod bus_unit;
+mod cut_plan;
 mod identity;
 mod layout;
 mod line;
@@ -27,6 +28,7 @@ fn answer(request: &[u8], text: &mut [u8], n: usize) -> usize {
         5 => identity::answer(number, request, text, n),
         6 => bus_unit::answer(number, request, text, n),
         7 => memory_bank_parser::answer(number, request, text, n),
+        8 => cut_plan::answer(number, request, text, n),
         _ => n,
     }
 }

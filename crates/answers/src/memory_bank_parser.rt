@@ -3,12 +3,15 @@ use crate::line;
 use crate::part251;
 use records::BankReading;
 use records::FixedText;
+use records::LuminaireValue;
 use records::OptionBankReading;
 use records::OptionI8;
+use records::OptionLuminaireValue;
 use records::ParsedBusUnit;
 use records::ParsedCondition;
 use records::ParsedEnergyBank;
 use records::ParsedGearDiagnostics;
+use records::ParsedLuminaire;
 use records::ParsedLuminaireMaintenance;
 use records::ParsedMemoryIdentity;
 use records::ParsedMemoryProfile;
@@ -24,6 +27,7 @@ pub(crate) fn answer(number: u8, request: &[u8], text: &mut [u8], n: usize) -> u
         0x73..=0x79 => of_bank(number, request, text, n),
         0x7A => text_region(request, text, n),
         0x7B => escape_into_bounded(request, text, n),
+        0x7C => luminaire(request, text, n),
         _ => n,
     }
 }
@@ -92,6 +96,16 @@ fn of_bank(number: u8, request: &[u8], text: &mut [u8], n: usize) -> usize {
             memory_bank_parser::parse_luminaire_maintenance(bytes, start),
         ),
     }
+}
+
+fn luminaire(request: &[u8], text: &mut [u8], n: usize) -> usize {
+    let start = line::u16_at(request, 1);
+    let bytes = line::slice_at(request, 3);
+    put_luminaire(
+        text,
+        n,
+        memory_bank_parser::parse_bank1_luminaire(bytes, start),
+    )
 }
 
 fn text_region(request: &[u8], text: &mut [u8], n: usize) -> usize {
@@ -313,4 +327,69 @@ fn put_maintenance(text: &mut [u8], n: usize, maintenance: ParsedLuminaireMainte
     let l = put_option_reading(text, k, temperature);
     let starts = maintenance.rated_starts_hundreds;
     put_option_reading(text, l, starts)
+}
+
+fn put_value(text: &mut [u8], n: usize, value: LuminaireValue) -> usize {
+    let m = line::put_u32(text, n, value.raw);
+    let shown = value.value;
+    let k = line::put_option_u32(text, m, shown);
+    line::put_bool(text, k, value.part209_implemented)
+}
+
+fn put_option_value(text: &mut [u8], n: usize, value: OptionLuminaireValue) -> usize {
+    match value {
+        OptionLuminaireValue::Some(v) => {
+            let m = line::put_u8(text, n, 1);
+            put_value(text, m, v)
+        }
+        OptionLuminaireValue::None => line::put_u8(text, n, 0),
+    }
+}
+
+// The members up to the voltages.
+fn put_luminaire_supply(text: &mut [u8], n: usize, luminaire: ParsedLuminaire) -> usize {
+    let id = luminaire.content_format_id;
+    let mut m = line::put_option_u16(text, n, id);
+    let year = luminaire.year;
+    m = put_option_value(text, m, year);
+    let week = luminaire.week;
+    m = put_option_value(text, m, week);
+    let power = luminaire.nominal_input_power_w;
+    m = put_option_value(text, m, power);
+    let power_at_minimum = luminaire.power_at_minimum_w;
+    m = put_option_value(text, m, power_at_minimum);
+    let least_voltage = luminaire.nominal_min_ac_voltage_v;
+    m = put_option_value(text, m, least_voltage);
+    let most_voltage = luminaire.nominal_max_ac_voltage_v;
+    put_option_value(text, m, most_voltage)
+}
+
+// The members between the voltages and the texts.
+fn put_luminaire_light(text: &mut [u8], n: usize, luminaire: ParsedLuminaire) -> usize {
+    let output = luminaire.nominal_light_output_lm;
+    let mut m = put_option_value(text, n, output);
+    let cri = luminaire.cri;
+    m = put_option_value(text, m, cri);
+    let cct = luminaire.cct_kelvin;
+    m = put_option_value(text, m, cct);
+    let distribution_type = luminaire.light_distribution_type;
+    put_option_value(text, m, distribution_type)
+}
+
+// The texts, with the lamp current among them.
+fn put_luminaire_texts(text: &mut [u8], n: usize, luminaire: ParsedLuminaire) -> usize {
+    let mut m = put_fixed_text(text, n, luminaire.luminaire_colour);
+    m = put_fixed_text(text, m, luminaire.luminaire_identification);
+    m = put_fixed_text(text, m, luminaire.light_distribution);
+    m = put_fixed_text(text, m, luminaire.oem_name);
+    m = put_fixed_text(text, m, luminaire.customer_stocking_number);
+    let current = luminaire.lamp_current_ma;
+    m = put_option_value(text, m, current);
+    put_fixed_text(text, m, luminaire.free_use)
+}
+
+fn put_luminaire(text: &mut [u8], n: usize, luminaire: ParsedLuminaire) -> usize {
+    let m = put_luminaire_supply(text, n, luminaire);
+    let k = put_luminaire_light(text, m, luminaire);
+    put_luminaire_texts(text, k, luminaire)
 }

@@ -14,7 +14,7 @@ use records::planned_writes;
 ghost use Prim.Native.Nat.{_+_, _≤_};
 
 // How many bytes the numbers of a request have.
-const NUMBERS_BYTES: usize = 46;
+pub(crate) const NUMBERS_BYTES: usize = 46;
 
 pub(crate) fn answer(number: u8, request: &[u8], text: &mut [u8], n: usize) -> usize {
     match number {
@@ -130,7 +130,7 @@ fn answer_stores(request: &[u8], text: &mut [u8], n: usize) -> usize {
     )
 }
 
-fn option_usize_at(request: &[u8], at: usize) -> OptionUsize
+pub(crate) fn option_usize_at(request: &[u8], at: usize) -> OptionUsize
     requires { ⌜ at ≤ 4090 ⌝ }
 {
     if line::u8_at(request, at) == 0 {
@@ -158,7 +158,7 @@ fn write_at(request: &[u8], at: usize) -> FieldWrite
     }
 }
 
-fn numbers_at(request: &[u8], at: usize) -> LuminaireNumbers
+pub(crate) fn numbers_at(request: &[u8], at: usize) -> LuminaireNumbers
     requires { ⌜ at ≤ 4000 ⌝ }
 {
     LuminaireNumbers {

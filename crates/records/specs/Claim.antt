@@ -48,7 +48,7 @@ pub record Accepted (old : List ℕ) (p : Plan) (text : List ℕ) : Type 0 where
 -- ---- the fields of a plan
 
 module _ (p : Plan) (text : List ℕ) where
-  -- what the record gives for a number's bytes, where the plan has the number
+  -- what the record gives for the bytes that are made of a number, where the plan has the number
   abbrev pub numberAs : LuminaireField → ℕ → NumberRule → (List ℕ → List ℕ) → Option Reading
   numberAs f patch r bytesOf =
       Option·map (λ value. aNumber (numberRead r (formatIn (p .layout .«content_format_id»)) (some (bytesOf (lowBytes (f .len) value))))) (numberFor (p .numbers) patch)
@@ -62,8 +62,8 @@ module _ (p : Plan) (text : List ℕ) where
   abbrev pub wanted : ℕ → Option Reading
   wanted i = bind (getElem? luminaireFields i) (λ f. wantedOf i f (f .kind))
 
-  -- "there a text reads empty, and a number of several bytes as the record reads its new leading bytes followed by its old
-  -- trailing ones", so many of them new
+  -- what a field reads as where so many of its stores were made, and not all: a text is empty; a number has "new leading
+  -- bytes", and its old ones behind
   abbrev pub begunOf : List ℕ → ℕ → LuminaireField → FieldKind → Option Reading
   begunOf old new f LayoutId = none
   begunOf old new f (Number patch r) = numberAs f patch r (λ bytes. take new bytes ++ drop new (take (f .len) (drop (f .offset) old)))
@@ -117,43 +117,48 @@ pub record Answered (chunk : ChunkRule) (bank buffer : List ℕ) (calls before :
 -- ---- what is concluded
 
 -- of an old bank, a plan, a cut of it, the bank that the cut leaves, a buffer and a list of calls
-pub record ReadsBack (chunk : ChunkRule) (old : List ℕ) (p : Plan) (text : List ℕ) (k : ℕ) (bank buffer : List ℕ) (calls : List Call) : Type 0 where
+pub record CutReadsBack (chunk : ChunkRule) (old : List ℕ) (p : Plan) (text : List ℕ) (k : ℕ) (bank buffer : List ℕ) (calls : List Call) : Type 0 where
+  -- 0. the read-out is started: "newly started with the cut bank's length"
   pub starts : starting 1 (length bank) ≡ ResultReadOut.Ok (fresh 1 (length bank))
-  -- 1. before each call the next offset is the sum of the lengths of the chunks accepted so far, and the call answers what the
-  -- read-out gives at that offset, refused calls included
+  -- 1. "The next offset is the sum of the accepted chunks' lengths, each call answers what "The read-out" above gives at that
+  -- offset": before each call, and refused calls too
   pub each-call : (before : List Call) (c : Call) (behind : List Call) → calls ≡ before ++ c ∷ behind → Answered chunk bank buffer calls before c
-  -- 2. after the list the buffer is the cut bank's bytes up to the next offset and its own old bytes elsewhere
+  -- 2. "its bytes stored at that offset in the lent buffer and nothing else there changed": after the list the buffer is the
+  -- cut bank's bytes up to the next offset, and its own old bytes elsewhere
   pub buffer-is :
       after chunk (begin bank buffer) calls .buffer
       ≡ take (after chunk (begin bank buffer) calls .out .next) bank ++ drop (after chunk (begin bank buffer) calls .out .next) buffer
   -- 3. "after as many accepted chunks as the bank has bytes the read-out is done at the latest"
   pub ends : length bank ≤ length (accepted chunk (begin bank buffer) calls) → Done chunk bank buffer calls
-  -- 4. "once the read-out is done, the buffer holds every bank byte outside them as in the old bank"
+  -- 4. "The fields are the 18 of `LUMINAIRE_FIELDS`; once the read-out is done, the buffer holds every bank byte outside them as
+  -- in the old bank."
   pub outside :
       Done chunk bank buffer calls → (j : ℕ) →
       ((i : ℕ) (f : LuminaireField) → getElem? luminaireFields i ≡ some f → f .offset ≤ j → j < fieldEnd f → ⊥) →
       getElem? (nowOf chunk bank buffer calls) j ≡ getElem? old j
-  -- 5. once done, every planned field whose stores were all made reads as wanted
+  -- 5. "A field reads as the luminaire record gives it at start offset 0, absent included: now from the buffer's first bytes":
+  -- once done, every planned field whose stores were all made reads as wanted
   pub whole : Done chunk bank buffer calls → (i : ℕ) → AllMade p text k i → reads 0 (nowOf chunk bank buffer calls) i ≡ wanted p text i
-  -- 6. once done, at most one field has stores begun and not all made; there a text reads empty, and a number of several bytes
-  -- as the record reads its new leading bytes followed by its old trailing ones
+  -- 6. "They are begun when the cut takes in one of them; new leading bytes are those it takes in": once done, at most one field
+  -- has stores begun and not all made; there a text reads empty, and a number of several bytes as the record reads its new
+  -- leading bytes followed by its old trailing ones
   pub only-one : Done chunk bank buffer calls → (i j : ℕ) → Begun p text k i → Begun p text k j → i ≡ j
   pub in-between :
       Done chunk bank buffer calls → (i : ℕ) → Begun p text k i →
       reads 0 (nowOf chunk bank buffer calls) i ≡ begun p text old (length (takenIn p text k i)) i
-  -- 7. once done, every other field reads exactly as before, absent included
+  -- 7. "old, or before, from the old bank": once done, every other field reads exactly as before, absent included
   pub others :
       Done chunk bank buffer calls → (i : ℕ) → (AllMade p text k i → ⊥) → (Begun p text k i → ⊥) →
       reads 0 (nowOf chunk bank buffer calls) i ≡ reads 0 old i
 
--- Demand 3, for a chunk rule. A cut is any number: one over the count of stores makes them all.
+-- The claim, for a chunk rule. A cut is any number: one over the count of stores makes them all.
 abbrev pub CutPlanReadsBackBy : ChunkRule → Type 0
 CutPlanReadsBackBy chunk =
     (old : List ℕ) (p : Plan) (text : List ℕ) (k : ℕ) (bank buffer : List ℕ) (calls : List Call) →
     OldBank old → Accepted old p text → bank ≡ cutBank (storesOf p text) k old → HoldsChunks chunk bank (begin bank buffer) calls →
-    ReadsBack chunk old p text k bank buffer calls
+    CutReadsBack chunk old p text k bank buffer calls
 
--- Demand 3.
+-- "Demand 3 is a single claim about plan, cut and the whole list of calls": the claim.
 abbrev pub CutPlanReadsBack : Type 0
 CutPlanReadsBack = CutPlanReadsBackBy chunkLen
 

@@ -18,7 +18,7 @@ use Rattle.records.specs.declared.luminaire_write.LuminaireNumbers.{Lumi
 use Rattle.records.specs.declared.luminaire_write.Plan.{Plan}
 use Rattle.records.specs.Plan.{planChecks, storesOf}
 use Rattle.records.specs.Cut.{cutBank}
-use Rattle.records.specs.Claim.{OldBank, begin, ReadsBack}
+use Rattle.records.specs.Claim.{OldBank, begin, CutReadsBack}
 
 module _ (numbers : LuminaireNumbers) (which : OptionUsize) (text : List ℕ) (old : List ℕ) where
   -- "the plan's layout is `Bank1Layout::from_header` of it"
@@ -59,4 +59,4 @@ EveryRunReadsBack =
     (numbers : LuminaireNumbers) (which : OptionUsize) (text old : List ℕ) (k : ℕ) (buffer : List ℕ) (calls : List Call) (out : ReadOut) →
     OldBank old → readBack numbers which text old k buffer calls ≡ ResultReadOut.Ok out →
     HoldsChunks chunkLen (cutOf numbers which text old k) (begin (cutOf numbers which text old k) buffer) calls →
-    ReadsBack chunkLen old (planFor numbers which text old) text k (cutOf numbers which text old k) buffer calls
+    CutReadsBack chunkLen old (planFor numbers which text old) text k (cutOf numbers which text old k) buffer calls

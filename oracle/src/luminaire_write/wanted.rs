@@ -201,7 +201,7 @@ fn random_numbers(rng: &mut Rng) -> Numbers {
     numbers.with(field, any_number(rng, field, rule))
 }
 
-fn accepted_number(rng: &mut Rng, rule: NumberRule) -> u32 {
+pub fn accepted_number(rng: &mut Rng, rule: NumberRule) -> u32 {
     let (first, end) = match rule {
         NumberRule::Year => (0, 100),
         NumberRule::Week => (1, 54),

@@ -30,8 +30,8 @@ const CONTENTS: [Content; 6] = [
 ];
 
 /// At full scale every length up to this is asked at every start offset up to that.
-const LONGEST: usize = 300;
-const LAST_START: u16 = 40;
+pub const LONGEST: usize = 300;
+pub const LAST_START: u16 = 40;
 
 pub fn record_cases<const BANK: u8>(source: &mut Source) -> Vec<RecordCase> {
     let end = masks(BANK).concat().len();

@@ -213,7 +213,7 @@ pub fn random_escape(source: &mut Source) -> EscapeCase {
 }
 
 /// A text of one kind of bytes or of all kinds. Its end may cut a letter.
-fn random_text(rng: &mut Rng, length: usize) -> Vec<u8> {
+pub fn random_text(rng: &mut Rng, length: usize) -> Vec<u8> {
     let kind = rng.below(5);
     let mut text = Vec::new();
     while text.len() < length {

@@ -1,28 +1,39 @@
 //! The private functions of the original, callable from outside. Nothing is computed here.
 
-use dali2rust_contracts::msg::FixedText;
+use dali2rust_contracts::msg::{FixedText, FixedText32, FixedText64};
 use dali2rust_domain::dali::banks::part251::TextRegion;
 use dali2rust_domain::dali::banks::ValueWidth;
-use dali2rust_domain::registry::BankReading;
+use dali2rust_domain::registry::{BankReading, LuminaireValue};
 
 use super::{
-    ParsedBusUnit, ParsedCondition, ParsedEnergyBank, ParsedGearDiagnostics, ParsedLuminaireMaintenance,
-    ParsedMemoryIdentity, ParsedMemoryProfile, ParsedSourceDiagnostics,
+    ParsedBusUnit, ParsedCondition, ParsedEnergyBank, ParsedGearDiagnostics, ParsedLuminaire,
+    ParsedLuminaireMaintenance, ParsedMemoryIdentity, ParsedMemoryProfile, ParsedSourceDiagnostics,
 };
 
 /// A member of a record.
+#[derive(Debug, Clone, PartialEq, Eq)]
 pub enum Member {
     Byte(Option<u8>),
+    Id(Option<u16>),
     Number(Option<u64>),
     Scale(Option<i8>),
     Reading(Option<BankReading>),
     /// A flag and its counter.
     Condition(Option<BankReading>, Option<BankReading>),
+    Value(Option<LuminaireValue>),
+    Text32(Option<FixedText32>),
+    Text64(Option<FixedText64>),
 }
 
 impl From<Option<u8>> for Member {
     fn from(byte: Option<u8>) -> Self {
         Self::Byte(byte)
+    }
+}
+
+impl From<Option<u16>> for Member {
+    fn from(id: Option<u16>) -> Self {
+        Self::Id(id)
     }
 }
 
@@ -48,6 +59,24 @@ impl From<ParsedCondition> for Member {
     fn from(condition: ParsedCondition) -> Self {
         let ParsedCondition { flag, counter } = condition;
         Self::Condition(flag, counter)
+    }
+}
+
+impl From<Option<LuminaireValue>> for Member {
+    fn from(value: Option<LuminaireValue>) -> Self {
+        Self::Value(value)
+    }
+}
+
+impl From<Option<FixedText32>> for Member {
+    fn from(text: Option<FixedText32>) -> Self {
+        Self::Text32(text)
+    }
+}
+
+impl From<Option<FixedText64>> for Member {
+    fn from(text: Option<FixedText64>) -> Self {
+        Self::Text64(text)
     }
 }
 
@@ -85,6 +114,26 @@ parsers! {
     parse_bank0_bus_unit: ParsedBusUnit {
         configuration,
         implemented_parts,
+    }
+    parse_bank1_luminaire: ParsedLuminaire {
+        content_format_id,
+        year,
+        week,
+        nominal_input_power_w,
+        power_at_minimum_w,
+        nominal_min_ac_voltage_v,
+        nominal_max_ac_voltage_v,
+        nominal_light_output_lm,
+        cri,
+        cct_kelvin,
+        light_distribution_type,
+        luminaire_colour,
+        luminaire_identification,
+        light_distribution,
+        oem_name,
+        customer_stocking_number,
+        lamp_current_ma,
+        free_use,
     }
     parse_energy_bank: ParsedEnergyBank {
         bank_version,

@@ -1,12 +1,12 @@
--- `answers::bus_unit::put_numbers` is safe and ends.
+-- `answers::line::put_u16s` is safe and ends.
 -- Assumes nothing.
 use mathlib.Core.Path.{_≡_, refl}
 use Prim.Native.Nat.{_-_}
 use native.Mathlib.Omega.{arith}
 use borrow.Author.Needs.{needs}
 use lib.ListN.{length}
-use Rattle.answers.proofs.bus_unit.put_numbers.Statement.{statement}
-use Rattle.answers.proofs.bus_unit.put_numbers.Tie as tie
+use Rattle.answers.proofs.line.put_u16s.Statement.{statement}
+use Rattle.answers.proofs.line.put_u16s.Tie as tie
 
 abbrev Inv-loop : tie.InvT-loop
 Inv-loop text₀ n numbers m₀ i₀ text m i = length text ≡ length text₀
@@ -41,8 +41,8 @@ same-length c = omega arith
 returns : tie.Need-returns Inv-loop μ-loop
 returns c = tt
 
-pub put-numbers-spec : {M : Type 1} → statement M
-put-numbers-spec =
+pub put-u16s-spec : {M : Type 1} → statement M
+put-u16s-spec =
     tie.close
     (tie.spec
     Inv-loop
