@@ -1,6 +1,6 @@
 -- Laws of what the fields give one after the other, and of what a list's elements give.
 -- Assumes nothing.
-use mathlib.Core.Path.{_≡_, refl, sym, ap, _∙_}
+use mathlib.Core.Path.{_≡_, refl, sym, ap, _∙_, subst}
 use mathlib.Core.List.{List, [], _∷_, _++_, append-assoc, append-nil}
 use mathlib.Core.Option.{none, some, Option·some-injective}
 use Prim.Native.Nat.{ℕ, zero, suc, _+_, _<_}
@@ -66,16 +66,25 @@ module _ {A : Type 0} where
       ∙ ap (g 0) (Option·some-injective _ _ m)
   gather-only g (h ∷ fs) (suc p) m e = rw (e 0 h (λ z. suc-ne-zero _ (sym z)) refl) (gather-only (λ i. g (suc i)) fs p m (λ i f d. e (suc i) f (λ z. d (suc-inj z))))
 
--- ---- each element of lists in two parts, and of what fields give
+-- ---- each element of lists in two parts, of what elements give, and of what fields give
 
 module _ {A : Type 0} (P : A → Type 0) where
   pub each-append : (xs ys : List A) → Each P xs → Each P ys → Each P (xs ++ ys)
   each-append [] ys a b = b
   each-append (x ∷ xs) ys a b = (a .0, each-append xs ys (a .1) b)
 
+  pub each-at : (xs : List A) (i : ℕ) {x : A} → Each P xs → getElem? xs i ≡ some x → P x
+  each-at [] i a e = no-element e
+  each-at (y ∷ xs) zero a e = subst P (Option·some-injective _ _ e) (a .0)
+  each-at (y ∷ xs) (suc i) a e = each-at xs i (a .1) e
+
   pub each-gather : (g : ℕ → LuminaireField → List A) (fs : List LuminaireField) → ((i : ℕ) (f : LuminaireField) → getElem? fs i ≡ some f → Each P (g i f)) → Each P (gather g fs)
   each-gather g [] h = tt
   each-gather g (f ∷ fs) h = each-append (g 0 f) (gather (λ i. g (suc i)) fs) (h 0 f refl) (each-gather (λ i. g (suc i)) fs (λ i. h (suc i)))
+
+pub each-flat : {A B : Type 0} (P : B → Type 0) (g : A → List B) (xs : List A) → Each (λ (x : A). Each P (g x)) xs → Each P (flat g xs)
+each-flat P g [] a = tt
+each-flat P g (x ∷ xs) a = each-append P (g x) (flat g xs) (a .0) (each-flat P g xs (a .1))
 
 pub each-map : {A : Type 0} (P Q : A → Type 0) → ((x : A) → P x → Q x) → (xs : List A) → Each P xs → Each Q xs
 each-map P Q f [] a = tt

@@ -8,7 +8,7 @@ use Prim.Native.Nat.{ℕ, zero, suc, _+_, _-_, _≤_}
 use native.Mathlib.Omega.{arith}
 use borrow.Author.Tests.{leb-true, le-leb, not-false}
 use lib.Dec.{leb}
-use lib.ListN.{length, take, drop, getElem?, length-take, length-drop}
+use lib.ListN.{length, getElem?}
 use Rattle.bus.specs.declared.OptionU8.{OptionU8}
 use Rattle.bus.proofs.Tests.{by-test}
 use Rattle.bus.proofs.Lists.{no-element}
@@ -23,11 +23,12 @@ use Rattle.bank.specs.Writable.{writeChecks}
 use Rattle.bank.proofs.Checks.{passed, passed-first}
 use Rattle.records.specs.declared.luminaire_write.LuminaireNumbers.{LuminaireNumbers}
 use Rattle.records.specs.declared.luminaire_write.Plan.{Plan}
-use Rattle.records.specs.Writes.{Write, Store, wantedNumber, isFor, gather, bytesFor, written, writesAt, plannedWrites, isStaged, singleBytes, writeStores, storesAt, Each, InField, InPlace, Rising, InOrder, EveryPlanInOrder, Staged, EveryWriteStaged}
+use Rattle.records.specs.declared.luminaire_write.WriteStage.{WriteStage}
+use Rattle.records.specs.Writes.{Write, Store, wantedNumber, isFor, gather, bytesFor, written, writesAt, plannedWrites, isStaged, stagesOf, partOf, singleBytes, stageStores, writeStores, storesAt, Each, InField, InPlace, Rising, InOrder, EveryPlanInOrder, Staged, EveryWriteStaged}
 use Rattle.records.specs.Plan.{numberChecks, textChecks, ifWanted, fieldChecks, unknownBits, unknownField, planChecks, storesOf, EveryStoreInBank}
-use Rattle.records.proofs.Gathering.{each-append, each-gather, each-map}
-use Rattle.records.proofs.Table.{second-true, by-field, table-rises, Sorted}
-use Rattle.records.proofs.Stages.{bytes-fit, stores-of-write}
+use Rattle.records.proofs.Gathering.{each-flat, each-gather, each-map}
+use Rattle.records.proofs.Table.{by-field, table-rises, Sorted}
+use Rattle.records.proofs.Stages.{bytes-fit, stores-of-write, StageIn, stages-in}
 
 -- ---- the stores of a write
 
@@ -49,14 +50,8 @@ module _ (place : ℕ) (f : LuminaireField) where
   -- they stand in its field
   inside : (bytes : List ℕ) → length bytes ≤ f .len → Each (InField f) (writeStores (written place f bytes))
   inside bytes h =
-      by-test (isStaged (f .kind) (length bytes))
-      (λ t.
-      let two : 2 ≤ length bytes = leb-true 2 (length bytes) (second-true (isTextKind (f .kind)) (leb 2 (length bytes)) t) in
-      rw t
-      (each-append (InField f) (singleBytes (f .offset) (0 ∷ [])) (singleBytes (f .offset + 1) (drop 1 bytes) ++ (singleBytes (f .offset) (take 1 bytes) ++ [])) (single-in (f .offset) (0 ∷ []) (omega arith) (omega arith))
-      (each-append (InField f) (singleBytes (f .offset + 1) (drop 1 bytes)) (singleBytes (f .offset) (take 1 bytes) ++ []) (single-in (f .offset + 1) (drop 1 bytes) (omega arith) (omega (arith, length-drop 1 bytes)))
-      (each-append (InField f) (singleBytes (f .offset) (take 1 bytes)) [] (single-in (f .offset) (take 1 bytes) (omega arith) (omega (arith, length-take 1 bytes))) tt))))
-      (λ t. rw t (each-append (InField f) (singleBytes (f .offset) bytes) [] (single-in (f .offset) bytes (omega arith) (omega arith)) tt))
+      each-flat (InField f) (stageStores bytes) (stagesOf place f (length bytes))
+      (each-map (StageIn place f bytes h) (λ (s : WriteStage). Each (InField f) (stageStores bytes s)) (λ s w. single-in (s .offset) (partOf (s .part) bytes (0 ∷ [])) (w .0) (w .1)) (stagesOf place f (length bytes)) (stages-in place f bytes h))
 
 pub every-write-staged : EveryWriteStaged
 every-write-staged place f = staged place f

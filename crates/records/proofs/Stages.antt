@@ -1,13 +1,13 @@
 -- Laws of a write's bytes and of its stages.
 -- Assumes nothing.
-use mathlib.Core.Path.{_≡_, refl, sym, ap, _∙_, subst}
-use mathlib.Core.Bool.{Bool, true, false}
+use mathlib.Core.Path.{_≡_, refl, sym, ap, _∙_}
 use mathlib.Core.List.{List, [], _∷_, _++_, append-nil}
 use mathlib.Core.Option.{Option, none, some}
 use Prim.Native.Nat.{ℕ, zero, suc, _+_, _≤_, _<_}
 use native.Mathlib.Omega.{arith}
-use lib.Dec.{lit≤}
-use lib.ListN.{length, take, drop, getElem?, length-append, length-take, length-drop}
+use borrow.Author.Tests.{leb-true}
+use lib.Dec.{leb, lit≤}
+use lib.ListN.{length, take, getElem?, length-append, length-take, length-drop}
 use lib.Seq.{sets, take-all, take-append-le}
 use Rattle.bus.specs.Number.{lowBytes}
 use Rattle.bus.proofs.Tests.{by-test}
@@ -18,14 +18,16 @@ use Rattle.bank.specs.declared.luminaire_write.NumberRule.{NumberRule}
 use Rattle.bank.specs.declared.luminaire_write.FieldKind.{FieldKind}
 use Rattle.bank.specs.declared.luminaire_write.FieldKind.the-variants.{LayoutId, Number, Text}
 use Rattle.bank.specs.declared.luminaire_write.LuminaireField.{LuminaireField}
+use Rattle.bank.specs.Fields.{fieldEnd, isTextKind}
 use Rattle.records.specs.declared.luminaire_write.LuminaireNumbers.{LuminaireNumbers}
 use Rattle.records.specs.declared.luminaire_write.WriteStage.{WriteStage}
 use Rattle.records.specs.declared.luminaire_write.FieldWrite.{FieldWrite}
 use Rattle.records.specs.declared.luminaire_write.OptionFieldWrite.{OptionFieldWrite}
-use Rattle.records.specs.declared.luminaire_write.StagePart.the-variants.{Terminator, Whole, Tail, Head}
 use Rattle.records.specs.Steps.{WithinBank}
-use Rattle.records.specs.Writes.{Store, wantedNumber, isFor, numberBytes, terminated, bytesFor, bytesIn, optionFieldWrite, isStaged, stagesOf, partOf, singleBytes, written, writeStores, storesAt}
+use Rattle.records.specs.Writes.{Each, wantedNumber, isFor, numberBytes, terminated, bytesFor, bytesIn, optionFieldWrite, isStaged, stagesOf, partOf, singleBytes, written, writeStores, storesAt}
 use Rattle.records.proofs.Laying.{front-laid}
+use Rattle.records.proofs.Gathering.{each-at}
+use Rattle.records.proofs.Table.{second-true}
 
 -- no element behind the last
 module _ {A : Type 0} where
@@ -115,30 +117,21 @@ pub single-count : (o : ℕ) (bs : List ℕ) → length (singleBytes o bs) ≡ l
 single-count o [] = refl
 single-count o (b ∷ bs) = ap suc (single-count (suc o) bs)
 
--- a stage ends within a bank
-module _ (index : ℕ) (f : LuminaireField) (bytes : List ℕ) (within : WithinBank f) (fits : length bytes ≤ f .len) where
-  abbrev InBank : WriteStage → Type 0
-  InBank s = s .offset + length (partOf (s .part) bytes (0 ∷ [])) ≤ 256
+-- each stage stands in its field, and so in a bank
+module _ (index : ℕ) (f : LuminaireField) (bytes : List ℕ) (fits : length bytes ≤ f .len) where
+  abbrev pub StageIn : WriteStage → Type 0
+  StageIn s = (f .offset ≤ s .offset) × (s .offset + length (partOf (s .part) bytes (0 ∷ [])) ≤ fieldEnd f)
 
-  at-most-one : length (take 1 bytes) ≤ 1
-  at-most-one = rw length-take (omega arith)
+  pub stages-in : Each StageIn (stagesOf index f (length bytes))
+  stages-in =
+      by-test (isStaged (f .kind) (length bytes))
+      (λ t.
+      let two = leb-true 2 (length bytes) (second-true (isTextKind (f .kind)) (leb 2 (length bytes)) t) in
+      rw t (simp (length-take, length-drop) (omega arith)))
+      (λ t. rw t (omega arith))
 
-  stage-in : {s : WriteStage} (b : Bool) (k : ℕ) → isStaged (f .kind) (length bytes) ≡ b → getElem? (stagesOf index f (length bytes)) k ≡ some s → InBank s
-  stage-in true k t e = three k (rw t at e)
-    where
-      three : {s : WriteStage} (k : ℕ) → getElem? (record { field = index; offset = f .offset; part = Terminator } ∷ record { field = index; offset = f .offset + 1; part = Tail } ∷ record { field = index; offset = f .offset; part = Head } ∷ []) k ≡ some s → InBank s
-      three zero e = subst InBank (some-same e) (omega (arith, within .starts))
-      three (suc zero) e = subst InBank (some-same e) (rw length-drop (omega (arith, within .starts, within .ends)))
-      three (suc (suc zero)) e = subst InBank (some-same e) (omega (arith, within .starts, at-most-one))
-      three (suc (suc (suc k))) e = no-element e
-  stage-in false k t e = one k (rw t at e)
-    where
-      one : {s : WriteStage} (k : ℕ) → getElem? (record { field = index; offset = f .offset; part = Whole } ∷ []) k ≡ some s → InBank s
-      one zero e = subst InBank (some-same e) (omega (arith, within .ends))
-      one (suc k) e = no-element e
-
-  pub stage-fits : {s : WriteStage} (k : ℕ) → getElem? (stagesOf index f (length bytes)) k ≡ some s → s .offset + length (partOf (s .part) bytes (0 ∷ [])) ≤ 256
-  stage-fits k e = stage-in (isStaged (f .kind) (length bytes)) k refl e
+  pub stage-fits : {s : WriteStage} (k : ℕ) → WithinBank f → getElem? (stagesOf index f (length bytes)) k ≡ some s → s .offset + length (partOf (s .part) bytes (0 ∷ [])) ≤ 256
+  stage-fits k within e = omega (arith, within .ends, each-at StageIn (stagesOf index f (length bytes)) k stages-in e .1)
 
 -- at most three stages
 pub few-stages : (index : ℕ) (f : LuminaireField) (n : ℕ) → length (stagesOf index f n) ≤ 3
@@ -147,15 +140,12 @@ few-stages index f n =
     (λ t. rw t (lit≤ tt))
     (λ t. rw t (lit≤ tt))
 
-three-count : (a b c : List Store) → length (a ++ (b ++ (c ++ []))) ≡ length a + (length b + length c)
-three-count a b c = rw (append-nil c, length-append, length-append)
-
 -- a write has at most one store more than bytes
 pub write-few : (place : ℕ) (f : LuminaireField) (bytes : List ℕ) → length (writeStores (written place f bytes)) ≤ length bytes + 1
 write-few place f bytes =
     by-test (isStaged (f .kind) (length bytes))
-    (λ t. rw t (subst (λ (k : ℕ). k ≤ length bytes + 1) (sym (three-count (singleBytes (f .offset) (0 ∷ [])) (singleBytes (f .offset + 1) (drop 1 bytes)) (singleBytes (f .offset) (take 1 bytes)))) (omega (arith, single-count (f .offset + 1) (drop 1 bytes) ∙ length-drop 1 bytes, single-count (f .offset) (take 1 bytes) ∙ length-take 1 bytes))))
-    (λ t. rw t (subst (λ (k : ℕ). k ≤ length bytes + 1) (sym (ap length (append-nil (singleBytes (f .offset) bytes)) ∙ single-count (f .offset) bytes)) (omega arith)))
+    (λ t. rw t (simp (length-append, single-count, length-take, length-drop) (omega arith)))
+    (λ t. rw t (simp (length-append, single-count) (omega arith)))
 
 pub stores-few : (n : LuminaireNumbers) (which : OptionUsize) (text : List ℕ) (place : ℕ) (f : LuminaireField) → length (storesAt n which text place f) ≤ f .len + 1
 stores-few n which text place f = go (bytesFor (f .kind) n which text place f) refl

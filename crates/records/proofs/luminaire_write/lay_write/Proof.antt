@@ -45,7 +45,7 @@ lay-stage-requires c κs =
     let g = c .before .before .before .before .before in
     let l = g .before .before .before .before in
     let a = l .before .before .before .before .args in
-    let fits = stage-fits (a .index) (a .field) (a .bytes .now) (l .loop .inv .1) (l .loop .inv .2) (l .loop .place) (told-stage _ (g .before .before .stage-of .ensures) (g .stage .given .1)) in
+    let fits = stage-fits (a .index) (a .field) (a .bytes .now) (l .loop .inv .2) (l .loop .place) (l .loop .inv .1) (told-stage _ (g .before .before .stage-of .ensures) (g .stage .given .1)) in
     (rw (c .before .before .bytes .ensures) fits, omega (arith, l .loop .inv .3))
 
 enum-told : tie.Need-enum-told Inv-loop μ-loop
@@ -66,7 +66,7 @@ loop-again c =
     ⊎-elim
     (λ t.
     let told = told-stage (getElem? ss (l .loop .place)) (c .before .stage-of .ensures) (t .1 .given .1) in
-    let fits = stage-fits (a .index) (a .field) (a .bytes .now) (s .1) (s .2) (l .loop .place) told in
+    let fits = stage-fits (a .index) (a .field) (a .bytes .now) (s .2) (l .loop .place) (s .1) told in
     let d : Laid (l .loop .offsets) (l .loop .values) (l .loop .n) (stageStores (a .bytes .now) (t .1 .given .0 .0)) (c .match .offsets) (c .match .values) (c .match .n) = stage-laid (t .1 .given .0 .0 .offset) (t .4 .ensures) (t .14 ∙ t .7 .ensures .0) (t .12 ∙ t .7 .ensures .1 .0) (t .13 ∙ t .7 .ensures .1 .1) in
     (omega arith, s .1, s .2, omega (arith, s .3, fits, d .count, single-count (t .1 .given .0 .0 .offset) (partOf (t .1 .given .0 .0 .part) (a .bytes .now) (0 ∷ []))), next-laid (stageStores (a .bytes .now)) ss (l .loop .place) (s .4) told d))
     (λ t.
