@@ -18,7 +18,7 @@ use Rattle.bank.specs.Calls.{Call, State, stateOf, step, after, answersO
 
 -- as many elements as there are of those asked for: these are taken, and the same are left
 module _ {A : Type 0} (n : ℕ) (l : List A) where
-  take-there : take (min n (length l)) l ≡ take n l
+  pub take-there : take (min n (length l)) l ≡ take n l
   take-there = ap (take (min n (length l))) (sym (take-append-drop n l)) ∙ take-at (take n l) (drop n l) (min n (length l)) (length-take n l)
 
   drop-there : drop (min n (length l)) l ≡ drop n l

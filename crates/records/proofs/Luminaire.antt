@@ -1,7 +1,7 @@
--- Laws of the luminaire record, and its theorem.
+-- Laws of the luminaire record, and its theorems.
 -- Assumes nothing.
 use mathlib.Core.Path.{_≡_, refl, sym, ap, _∙_}
-use mathlib.Core.Bool.{Bool, true, false, cond}
+use mathlib.Core.Bool.{Bool, true, false, cond, _&&_, _||_}
 use mathlib.Core.List.{List, [], _∷_, map}
 use mathlib.Core.Option.{Option, none, some, Option·map, comp-map, bind}
 use Prim.Native.Nat.{ℕ, zero, suc}
@@ -17,17 +17,20 @@ use Rattle.bus.proofs.Tests.{by-test}
 use Rattle.bank.specs.declared.OptionU16.{OptionU16}
 use Rattle.bank.specs.declared.OptionU32.{OptionU32}
 use Rattle.bank.specs.declared.luminaire_write.NumberRule.{NumberRule}
+use Rattle.bank.specs.declared.luminaire_write.FieldKind.{FieldKind}
+use Rattle.bank.specs.declared.luminaire_write.FieldKind.the-variants.{LayoutId, Number, Text}
+use Rattle.bank.specs.declared.luminaire_write.LuminaireField.{LuminaireField}
 use Rattle.bank.specs.declared.part251.CctReading.{CctReading}
 use Rattle.bank.specs.declared.part251.CctReading.the-variants.{Kelvin, Part209Implemented}
 use Rattle.bank.specs.Options.{optionU16}
 use Rattle.bank.specs.Readings.{cctOf}
 use Rattle.bank.specs.Fields.{luminaireFields}
-use Rattle.bank.specs.Writable.{formatIn}
+use Rattle.bank.specs.Writable.{readOnly, formatIn}
 use Rattle.records.specs.declared.attributes.LuminaireValue.{LuminaireValue}
 use Rattle.records.specs.declared.memory_bank_parser.ParsedLuminaire.{ParsedLuminaire}
 use Rattle.records.specs.Options.{optionLuminaireValue}
-use Rattle.records.specs.Places.{fieldAt}
-use Rattle.records.specs.Luminaire.{valueIn, formatAt, readAs, recordOf, numbersIn, textsIn, luminaire, RecordIsItsReadings}
+use Rattle.records.specs.Places.{fieldAt, isThere}
+use Rattle.records.specs.Luminaire.{valueIn, reading, having, formatAt, readAs, recordOf, numbersIn, textsIn, luminaire, RecordIsItsReadings, isShown, inFormat, EveryFieldShownExactly}
 use Rattle.records.specs.Steps.{plainValue, valueAt}
 
 -- every format has what format 3 has
@@ -94,3 +97,27 @@ element-of-map g (x ∷ xs) (suc i) = element-of-map g xs i
 pub record-is-its-readings : RecordIsItsReadings
 unfolding luminaireFields
 record-is-its-readings start bytes i = element-of-map (readAs start bytes (formatAt start bytes)) luminaireFields i
+
+-- a field is shown where its format has it, if it is there
+shown : (f : LuminaireField) (kind : FieldKind) (format : Option LuminaireFormat) (bytes : Option (List ℕ))
+    → isShown (reading kind (having f format) bytes) ≡ ((readOnly kind || inFormat f format) && isThere bytes)
+unfolding bind
+shown f LayoutId format none = refl
+shown f LayoutId format (some bs) = refl
+shown f (Number patch r) none bytes = refl
+shown f (Number patch r) (some v) bytes = by (fromFormat (f .since) v) bytes
+  where
+    by : (has : Bool) (bytes : Option (List ℕ)) → isShown (reading (Number patch r) (cond has (some v) none) bytes) ≡ (has && isThere bytes)
+    by true none = refl
+    by true (some bs) = refl
+    by false bytes = refl
+shown f (Text t) none bytes = refl
+shown f (Text t) (some v) bytes = by (fromFormat (f .since) v) bytes
+  where
+    by : (has : Bool) (bytes : Option (List ℕ)) → isShown (reading (Text t) (cond has (some v) none) bytes) ≡ (has && isThere bytes)
+    by true none = refl
+    by true (some bs) = refl
+    by false bytes = refl
+
+pub every-field-shown-exactly : EveryFieldShownExactly
+every-field-shown-exactly start bytes f = shown f (f .kind) (formatAt start bytes) (fieldAt start bytes (f .offset) (f .len))

@@ -15,6 +15,7 @@ use Rattle.bank.specs.declared.luminaire_write.LuminaireField.{LuminaireField}
 use Rattle.bank.specs.Refusal.{firstOf}
 use Rattle.bank.specs.Fields.{luminaireFields}
 use Rattle.bank.specs.Calls.{sum}
+use Rattle.bank.proofs.Running.{take-there}
 use Rattle.records.specs.declared.ResultUsize.{ResultUsize}
 use Rattle.records.specs.declared.ResultUsize.the-variants.{Ok, Err}
 use Rattle.records.specs.declared.luminaire_write.LuminaireNumbers.{LuminaireNumbers}
@@ -26,7 +27,7 @@ use Rattle.records.proofs.Laying.{front-laid}
 use Rattle.records.proofs.Table.{by-field}
 use Rattle.records.proofs.Stages.{some-same, stores-few}
 use Rattle.records.proofs.Plans.{plan-refused, plan-accepted}
-use Rattle.records.proofs.Cutting.{take-again, members-stored}
+use Rattle.records.proofs.Cutting.{members-stored}
 
 -- as many offsets as stores, and as many values
 pub offsets-count : (ss : List Store) → length (offsetsOf ss) ≡ length ss
@@ -122,7 +123,7 @@ module _ {p : Plan} {text : List ℕ} {n : ℕ} {os vs : List ℕ} (a : Accepted
   cut-made k {made} bank e =
       let ss = storesOf p text in
       let few : made ≤ n = omega arith in
-      let same : take made ss ≡ take k ss = (rw (e, a .count)) ∙ take-few k ss in
+      let same : take made ss ≡ take k ss = (rw (e, a .count)) ∙ take-there k ss in
       ap (λ (l : List ℕ). storedAt l (take made vs) bank) (sym (take-take made n os few) ∙ ap (take made) (a .offsets) ∙ take-map (λ (s : Store). s .offset) made ss)
       ∙ ap (λ (l : List ℕ). storedAt (offsetsOf (take made ss)) l bank) (sym (take-take made n vs few) ∙ ap (take made) (a .values) ∙ take-map (λ (s : Store). s .value) made ss)
       ∙ members-stored (take made ss) bank
@@ -132,6 +133,3 @@ module _ {p : Plan} {text : List ℕ} {n : ℕ} {os vs : List ℕ} (a : Accepted
       take-map f zero ss = refl
       take-map f (suc m) [] = refl
       take-map f (suc m) (s ∷ ss) = ap (λ (l : List ℕ). f s ∷ l) (take-map f m ss)
-
-      take-few : (k : ℕ) (ss : List Store) → take (min k (length ss)) ss ≡ take k ss
-      take-few k ss = ap (λ (n : ℕ). take n ss) (sym (length-take k ss)) ∙ take-again k ss

@@ -1,7 +1,7 @@
 -- 01, "The records": the luminaire record, which is what the 18 fields of bank 1 read as.
 -- Assumes nothing.
 use mathlib.Core.Path.{_≡_}
-use mathlib.Core.Bool.{Bool, false, cond}
+use mathlib.Core.Bool.{Bool, true, false, cond, _&&_, _||_}
 use mathlib.Core.List.{List, [], _∷_}
 use mathlib.Core.Option.{Option, none, some, Option·map, bind}
 use Prim.Native.Nat.{ℕ}
@@ -22,7 +22,7 @@ use Rattle.bank.specs.Options.{optionU16, optionU32}
 use Rattle.bank.specs.Rules.{shows}
 use Rattle.bank.specs.Readings.{cctSays}
 use Rattle.bank.specs.Fields.{luminaireFields}
-use Rattle.bank.specs.Writable.{formatIn}
+use Rattle.bank.specs.Writable.{readOnly, formatIn}
 use Rattle.records.specs.declared.attributes.LuminaireValue.{LuminaireValue}
 use Rattle.records.specs.declared.attributes.OptionLuminaireValue.{OptionLuminaireValue}
 use Rattle.records.specs.declared.fixed_text.TextLimit.{TextLimit}
@@ -30,7 +30,7 @@ use Rattle.records.specs.declared.fixed_text.TextLimit.the-variants.{Byt
 use Rattle.records.specs.declared.fixed_text.FixedText.{FixedText}
 use Rattle.records.specs.declared.memory_bank_parser.ParsedLuminaire.{ParsedLuminaire}
 use Rattle.records.specs.Options.{optionLuminaireValue}
-use Rattle.records.specs.Places.{fieldAt}
+use Rattle.records.specs.Places.{fieldAt, isThere}
 use Rattle.records.specs.Text.{absentText, textIn}
 
 -- "64 bytes (identification) or 32 (others)"
@@ -175,3 +175,23 @@ membersOf r =
 -- The record is those 18 readings: its member at an index is what the field at that index reads as.
 abbrev pub RecordIsItsReadings : Type 0
 RecordIsItsReadings = (start : ℕ) (bytes : List ℕ) (i : ℕ) → getElem? (membersOf (luminaire start bytes)) i ≡ reads start bytes i
+
+-- whether a reading shows anything
+abbrev pub isShown : Reading → Bool
+isShown (anId OptionU16.None) = false
+isShown (anId (OptionU16.Some id)) = true
+isShown (aNumber OptionLuminaireValue.None) = false
+isShown (aNumber (OptionLuminaireValue.Some v)) = true
+isShown (aText t) = t .present
+
+abbrev pub inFormat : LuminaireField → Option LuminaireFormat → Bool
+inFormat f none = false
+inFormat f (some v) = fromFormat (f .since) v
+
+-- "holds only the id if that isn't 3 to 5", and "a field not wholly present is absent": a field is shown exactly where it is
+-- present and, the id aside, in the bank's format.
+abbrev pub EveryFieldShownExactly : Type 0
+EveryFieldShownExactly =
+    (start : ℕ) (bytes : List ℕ) (f : LuminaireField) →
+    isShown (readAs start bytes (formatAt start bytes) f)
+    ≡ ((readOnly (f .kind) || inFormat f (formatAt start bytes)) && isThere (fieldAt start bytes (f .offset) (f .len)))
