@@ -5,7 +5,7 @@ use mathlib.Core.Logic.{_≢_}
 use mathlib.Core.Bool.{Bool, true, false, cond, _&&_, true≢false}
 use mathlib.Core.List.{List, [], _∷_, _++_, append-nil, append-assoc}
 use mathlib.Core.Option.{Option, none, some, Option·map, bind}
-use Prim.Native.Nat.{ℕ, zero, suc, _+_, _-_, _*_, _^_, _≤_, _<_}
+use Prim.Native.Nat.{ℕ, _+_, _-_, _*_, _^_, _≤_, _<_}
 use native.Mathlib.Nat.{sub-zero, not-suc-le-zero, mod-eq-of-lt}
 use native.Mathlib.Omega.{arith}
 use borrow.Author.Tests.{ltb-true, ltb-false, leb-true, le-leb, ne-eqb, not-false}
@@ -16,7 +16,6 @@ use Rattle.bus.specs.declared.OptionU8.{OptionU8}
 use Rattle.bus.specs.declared.part251.LuminaireFormat.{LuminaireFormat}
 use Rattle.bus.specs.Number.{number, lowBytes}
 use Rattle.bus.specs.Part251.{fromFormat}
-use Rattle.bus.proofs.Lists.{no-element}
 use Rattle.bus.proofs.Number.{length-lowBytes, number-lowBytes}
 use Rattle.bus.proofs.Tests.{by-test}
 use Rattle.bank.specs.declared.refusal.Refusal.{Refusal}
@@ -46,8 +45,8 @@ use Rattle.records.specs.Cut.{stored, cutBank, storesFor, before, takenI
 use Rattle.records.specs.Claim.{OldBank, Accepted, wantedOf, wanted, begunOf, begun, AllMade, Begun, EveryWantedNumberShown}
 use Rattle.records.proofs.Texts.{printable-reads-as-itself, zero-reads-empty}
 use Rattle.records.proofs.Gathering.{each-gather, each-map}
-use Rattle.records.proofs.Table.{first-true, second-true, by-field, table-rises}
-use Rattle.records.proofs.Stages.{stores-of-write, stores-of-none, some-same, single-count, cut-text, short-text}
+use Rattle.records.proofs.Table.{first-true, second-true, entry-passes, by-field, table-rises}
+use Rattle.records.proofs.Stages.{stores-of-write, stores-of-none, single-count, cut-text, short-text}
 use Rattle.records.proofs.Order.{staged, in-field, none-first, none-second, field-sound, ends-within}
 use Rattle.records.proofs.Cutting.{take-again, part, length-part, length-stored, each-take, stored-elsewhere, bytes-made, leading-made, begins-zero, text-made, window, share, in-turn}
 
@@ -58,25 +57,16 @@ fitsLimit LayoutId n = true
 fitsLimit (Number patch r) n = true
 fitsLimit (Text t) n = leb n (limitOf (limitFor t))
 
-abbrev allFit : List LuminaireField → Bool
-allFit [] = true
-allFit (f ∷ fs) = fitsLimit (f .kind) (f .len) && allFit fs
-
-entry-fits : (fs : List LuminaireField) (i : ℕ) {f : LuminaireField} → allFit fs ≡ true → getElem? fs i ≡ some f → fitsLimit (f .kind) (f .len) ≡ true
-entry-fits [] i t e = no-element e
-entry-fits (g ∷ fs) zero t e = subst (λ (f : LuminaireField). fitsLimit (f .kind) (f .len) ≡ true) (some-same e) (first-true (fitsLimit (g .kind) (g .len)) (allFit fs) t)
-entry-fits (g ∷ fs) (suc i) t e = entry-fits fs i (second-true (fitsLimit (g .kind) (g .len)) (allFit fs) t) e
-
 table-fits : (i : ℕ) {f : LuminaireField} → getElem? luminaireFields i ≡ some f → fitsLimit (f .kind) (f .len) ≡ true
 unfolding luminaireFields
-table-fits i e = entry-fits luminaireFields i refl e
+table-fits i e = entry-passes (λ (f : LuminaireField). fitsLimit (f .kind) (f .len)) luminaireFields i refl e
 
 -- ---- a field's place in a bank, from offset 0
 
 place-of : (bank : List ℕ) (o n : ℕ) → fieldAt 0 bank o n ≡ cond (leb (o + n) (length bank)) (some (part o n bank)) none
 place-of bank o n = rw (le-leb 0 o (omega arith), sub-zero)
 
-pub same-place : (b c : List ℕ) (o n : ℕ) → length b ≡ length c → part o n b ≡ part o n c → fieldAt 0 b o n ≡ fieldAt 0 c o n
+same-place : (b c : List ℕ) (o n : ℕ) → length b ≡ length c → part o n b ≡ part o n c → fieldAt 0 b o n ≡ fieldAt 0 c o n
 same-place b c o n l e = place-of b o n ∙ (rw (l, e)) ∙ sym (place-of c o n)
 
 present : (bank : List ℕ) (o n : ℕ) → o + n ≤ length bank → fieldAt 0 bank o n ≡ some (part o n bank)

@@ -1,17 +1,15 @@
--- The rule of the table of fields that the plan needs: each field's offsets are bytes. Computed once over the whole table.
+-- The rules of the table of fields, each computed once over the whole table.
 -- Assumes nothing.
 use mathlib.Core.Path.{_≡_, refl, sym, subst}
 use mathlib.Core.Bool.{Bool, true, false, _&&_, true≢false}
 use mathlib.Core.List.{List, [], _∷_}
-use mathlib.Core.Option.{some}
+use mathlib.Core.Option.{some, Option·some-injective}
 use Prim.Native.Nat.{ℕ, zero, suc, _≤_, _<_}
 use borrow.Author.Tests.{leb-true}
 use lib.Dec.{leb, lit≤}
 use lib.ListN.{length, getD, getElem?, take}
 use lib.Seq.{take-all}
-use Rattle.bus.specs.declared.part251.LuminaireFormat.the-variants.{V3}
 use Rattle.bus.proofs.Lists.{no-element, entry-in}
-use Rattle.bank.specs.declared.luminaire_write.FieldKind.the-variants.{LayoutId}
 use Rattle.bank.specs.declared.luminaire_write.LuminaireField.{LuminaireField}
 use Rattle.bank.specs.declared.OptionUsize.{OptionUsize}
 use Rattle.bank.specs.Fields.{luminaireFields, fieldEnd}
@@ -19,10 +17,6 @@ use Rattle.records.specs.declared.luminaire_write.LuminaireNumbers.{Lumi
 use Rattle.records.specs.Writes.{gather, writesAt, plannedWrites, writeStores, storesAt, planStores}
 use Rattle.records.specs.Steps.{WithinBank}
 use Rattle.records.proofs.Gathering.{flat-gather}
-
-abbrev allWithin : List LuminaireField → Bool
-allWithin [] = true
-allWithin (f ∷ fs) = (leb (f .offset) 254 && leb (fieldEnd f) 256) && allWithin fs
 
 pub first-true : (a b : Bool) → (a && b) ≡ true → a ≡ true
 first-true true b e = refl
@@ -32,21 +26,28 @@ pub second-true : (a b : Bool) → (a && b) ≡ true → b ≡ true
 second-true true b e = e
 second-true false b e = absurd (true≢false (sym e))
 
-entry-within : {f : LuminaireField} (fs : List LuminaireField) (i : ℕ) → allWithin fs ≡ true → getElem? fs i ≡ some f → WithinBank f
-entry-within [] i t e = no-element e
-entry-within {f} (g ∷ fs) zero t e =
-    let same : g ≡ f = cc in
-    let h = first-true (leb (g .offset) 254 && leb (fieldEnd g) 256) (allWithin fs) t in
-    subst WithinBank same (record {
-      starts = leb-true (g .offset) 254 (first-true (leb (g .offset) 254) (leb (fieldEnd g) 256) h);
-      ends = leb-true (fieldEnd g) 256 (second-true (leb (g .offset) 254) (leb (fieldEnd g) 256) h);
-    })
-entry-within (g ∷ fs) (suc i) t e = entry-within fs i (second-true (leb (g .offset) 254 && leb (fieldEnd g) 256) (allWithin fs) t) e
+-- a test that all fields pass
+abbrev pub allPass : (LuminaireField → Bool) → List LuminaireField → Bool
+allPass test [] = true
+allPass test (f ∷ fs) = test f && allPass test fs
 
--- by index
+pub entry-passes : (test : LuminaireField → Bool) (fs : List LuminaireField) (i : ℕ) {f : LuminaireField} → allPass test fs ≡ true → getElem? fs i ≡ some f → test f ≡ true
+entry-passes test [] i t e = no-element e
+entry-passes test (g ∷ fs) zero t e = subst (λ (f : LuminaireField). test f ≡ true) (Option·some-injective _ _ e) (first-true (test g) (allPass test fs) t)
+entry-passes test (g ∷ fs) (suc i) t e = entry-passes test fs i (second-true (test g) (allPass test fs) t) e
+
+-- each field's offsets are bytes
+abbrev isWithin : LuminaireField → Bool
+isWithin f = leb (f .offset) 254 && leb (fieldEnd f) 256
+
 pub within-bank : {f : LuminaireField} (i : ℕ) → getElem? luminaireFields i ≡ some f → WithinBank f
 unfolding luminaireFields
-within-bank i e = entry-within luminaireFields i refl e
+within-bank {f} i e =
+    let passes = entry-passes isWithin luminaireFields i refl e in
+    record {
+      starts = leb-true (f .offset) 254 (first-true (leb (f .offset) 254) (leb (fieldEnd f) 256) passes);
+      ends = leb-true (fieldEnd f) 256 (second-true (leb (f .offset) 254) (leb (fieldEnd f) 256) passes);
+    }
 
 -- in a loop over the table
 pub table-entry : (i : ℕ) (d : LuminaireField) → i < 18 → getElem? luminaireFields i ≡ some (getD luminaireFields i d)
@@ -84,7 +85,3 @@ sorted z (f ∷ fs) t = (leb-true z (f .offset) (first-true (leb z (f .offset)) 
 pub table-rises : Sorted 0 luminaireFields
 unfolding luminaireFields
 table-rises = sorted 0 luminaireFields refl
-
--- stands for an entry behind the table's end
-abbrev pub none-field : LuminaireField
-none-field = record { offset = 0; len = 0; since = V3; kind = LayoutId }
