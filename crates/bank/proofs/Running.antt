@@ -7,14 +7,15 @@ use Prim.Native.Nat.{ℕ, suc, _+_, _-_, _≤_, _<_, min}
 use native.Mathlib.Nat.{le-of-suc-le-suc, not-suc-le-zero}
 use native.Mathlib.Numerals.{add-one}
 use native.Mathlib.Omega.{arith}
+use borrow.Author.Tests.{ne-eqb}
 use lib.ListN.{length, getD, set, take, drop, length-take, length-drop, take-append-drop}
-use lib.Seq.{drop-cons, drop-drop, take-at, drop-at, sets, length-sets}
+use lib.Seq.{drop-cons, drop-drop, take-at, drop-at, take-append-seam, drop-append-seam, sets, length-sets}
 use Rattle.bus.specs.Value.{laidInto}
 use Rattle.bus.proofs.Tests.{by-test}
 use Rattle.bus.proofs.Lists.{sets-laid}
 use Rattle.bank.specs.declared.call_list.Called.{Called}
 use Rattle.bank.specs.Chunk.{chunkLen}
-use Rattle.bank.specs.Calls.{Call, State, stateOf, step, after, answersOf, isWanting, callWith, callsIn, answerNumber, calledBy}
+use Rattle.bank.specs.Calls.{Call, want, accept, State, stateOf, step, after, answersOf, isWanting, callWith, callsIn, layChunks, EveryListLaid, answerNumber, calledBy}
 
 -- as many elements as there are of those asked for: these are taken, and the same are left
 module _ {A : Type 0} (n : ℕ) (l : List A) where
@@ -63,6 +64,14 @@ few-calls (budget ∷ len ∷ rest) bytes h = absurd (not-suc-le-zero (le-of-suc
 -- nor are they at the end
 pub no-call : (calls bytes : List ℕ) (i : ℕ) → length calls - i < 2 → callsIn (drop i calls) bytes ≡ []
 no-call calls bytes i h = few-calls (drop i calls) bytes (rw length-drop h)
+
+pub every-list-laid : EveryListLaid
+unfolding callsIn
+every-list-laid [] l = refl
+every-list-laid (want budget ∷ cs) l = ap (λ (r : List Call). want budget ∷ r) (every-list-laid cs l)
+every-list-laid (accept budget bytes ∷ cs) l =
+    rw (ne-eqb (length bytes) 0xFFFF (l .0), take-append-seam bytes (layChunks cs), drop-append-seam bytes (layChunks cs))
+    (ap (λ (r : List Call). accept budget bytes ∷ r) (every-list-laid cs (l .1)))
 
 -- ---- a run of calls
 

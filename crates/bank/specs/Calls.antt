@@ -134,6 +134,27 @@ callsIn [] bytes = []
 callsIn (budget ∷ []) bytes = []
 callsIn (budget ∷ len ∷ rest) bytes = callWith budget len (take len bytes) ∷ callsIn rest (cond (isWanting len) bytes (drop len bytes))
 
+-- a list of calls, laid so
+abbrev pub layNumbers : List Call → List ℕ
+layNumbers [] = []
+layNumbers (want budget ∷ cs) = budget ∷ 0xFFFF ∷ layNumbers cs
+layNumbers (accept budget bytes ∷ cs) = budget ∷ length bytes ∷ layNumbers cs
+
+abbrev pub layChunks : List Call → List ℕ
+layChunks [] = []
+layChunks (want budget ∷ cs) = layChunks cs
+layChunks (accept budget bytes ∷ cs) = bytes ++ layChunks cs
+
+-- no chunk has FFFF hex bytes
+abbrev pub Layable : List Call → Type 0
+Layable [] = Unit {0}
+Layable (want budget ∷ cs) = Layable cs
+Layable (accept budget bytes ∷ cs) = (length bytes ≡ 0xFFFF → ⊥) × Layable cs
+
+-- Every such list of calls can be laid, and is then the one that is made.
+abbrev pub EveryListLaid : Type 0
+EveryListLaid = (calls : List Call) → Layable calls → callsIn (layNumbers calls) (layChunks calls) ≡ calls
+
 -- an answer in one number: done 0, a chunk its length, a read-out its next offset, a refusal its number and 512
 abbrev pub refusedNumber : Refusal → ℕ
 refusedNumber r = 512 + numberOf r

@@ -90,7 +90,7 @@ text-behind f text old h l =
 -- ---- an accepted plan
 
 -- neither the plan nor the lent slices are refused
-passed-plan : (p : Plan) (text os vs : List ℕ) {count : ℕ} → planned p text os vs ≡ Ok count → firstOf (planChecks p text) ≡ none
+pub passed-plan : (p : Plan) (text os vs : List ℕ) {count : ℕ} → planned p text os vs ≡ Ok count → firstOf (planChecks p text) ≡ none
 unfolding planned
 passed-plan p text os vs e = go (firstOf (layChecks p text os vs)) refl
   where

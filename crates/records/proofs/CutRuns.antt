@@ -4,10 +4,11 @@ use mathlib.Core.Path.{_≡_, refl, sym, ap, _∙_}
 use mathlib.Core.Bool.{Bool, _||_}
 use mathlib.Core.List.{List, map}
 use mathlib.Core.Option.{Option, none, some}
-use Prim.Native.Nat.{ℕ, _≤_}
+use Prim.Native.Nat.{ℕ}
 use native.Mathlib.Omega.{arith}
+use borrow.Author.Tests.{le-ltb}
 use lib.Dec.{ltb}
-use lib.ListN.{length, take, replicate, length-replicate}
+use lib.ListN.{length, take}
 use Rattle.bus.specs.Value.{laidInto}
 use Rattle.bus.proofs.Lists.{no-element}
 use Rattle.bus.proofs.Tests.{by-test}
@@ -29,12 +30,11 @@ use Rattle.records.specs.declared.luminaire_write.LuminaireNumbers.{Lumi
 use Rattle.records.specs.declared.luminaire_write.Plan.{Plan}
 use Rattle.records.specs.Plan.{planChecks, storesOf}
 use Rattle.records.specs.Cut.{cutBank}
-use Rattle.records.specs.Claim.{Accepted, begin}
+use Rattle.records.specs.Claim.{begin}
 use Rattle.records.specs.CutRun.{planFor, runChecks, cutOf, bankBehind, readBack, bufferBehind, answersBehind, EveryRunReadsBack}
 use Rattle.records.proofs.Stages.{some-same}
-use Rattle.records.proofs.Plans.{plan-accepted}
 use Rattle.records.proofs.Cutting.{length-stored}
-use Rattle.records.proofs.Room.{stores-bound}
+use Rattle.records.proofs.CutFields.{passed-plan}
 use Rattle.records.proofs.Claim.{cut-plan-reads-back}
 
 abbrev outIn : ResultReadOut → Option ReadOut
@@ -116,31 +116,17 @@ module _ (numbers : LuminaireNumbers) (which : OptionUsize) (text old : List ℕ
 
 -- ---- the claim
 
--- a run that is not refused has an accepted plan
-ran-accepted : (numbers : LuminaireNumbers) (which : OptionUsize) (text old : List ℕ) (k : ℕ) (buffer : List ℕ) (calls : List Call) {out : ReadOut}
-    → readBack numbers which text old k buffer calls ≡ Ok out → Accepted old (planFor numbers which text old) text
-unfolding firstOf runChecks
-ran-accepted numbers which text old k buffer calls {out} e = go (firstOf (runChecks numbers which text old)) refl
-  where
-    p : Plan
-    p = planFor numbers which text old
-
-    room : List ℕ
-    room = replicate 256 0
-
-    plan-passed : firstOf (runChecks numbers which text old) ≡ none → firstOf (planChecks p text) ≡ none
-    plan-passed f =
-        by-test (tooLong numbers which text old)
-        (λ long. no-element (sym (rw long at f)))
-        (λ short. rw short at f)
-
-    go : (o : Option Refusal) → firstOf (runChecks numbers which text old) ≡ o → Accepted old p text
-    go (some r) f = no-element (rw f at (ap outIn e))
-    go none f =
-        let few : length (storesOf p text) ≤ length room = omega (arith, stores-bound numbers which text, length-replicate {A = ℕ} 256 0) in
-        let done = plan-accepted p text room room (plan-passed f) few few refl refl refl in
-        record { layout = refl; offsets = room; values = room; count = length (storesOf p text); accepts = sym (done .0) }
-
 pub every-run-reads-back : EveryRunReadsBack
-every-run-reads-back numbers which text old k buffer calls out is-old e held =
-    cut-plan-reads-back old (planFor numbers which text old) text k (cutOf numbers which text old k) buffer calls is-old (ran-accepted numbers which text old k buffer calls e) refl held
+unfolding firstOf runChecks
+every-run-reads-back numbers which text old k buffer calls is-old accepted held =
+    record {
+      runs = rw sound;
+      leaves-cut = rw sound;
+      leaves-buffer = rw sound;
+      claim = cut-plan-reads-back old (planFor numbers which text old) text k (cutOf numbers which text old k) buffer calls is-old accepted refl held;
+    }
+  where
+    sound : firstOf (runChecks numbers which text old) ≡ none
+    sound =
+        rw (le-ltb 256 (length old) (is-old .few), le-ltb (length old) 0 (omega arith))
+        (passed-plan (planFor numbers which text old) text (accepted .offsets) (accepted .values) (accepted .accepts))

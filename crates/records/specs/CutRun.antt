@@ -7,7 +7,6 @@ use Prim.Native.Nat.{ℕ}
 use lib.ListN.{length}
 use Rattle.bus.specs.Value.{laidInto}
 use Rattle.bank.specs.declared.OptionUsize.{OptionUsize}
-use Rattle.bank.specs.declared.read_out.ReadOut.{ReadOut}
 use Rattle.bank.specs.declared.read_out.ResultReadOut.{ResultReadOut}
 use Rattle.bank.specs.Refusal.{Check, checked}
 use Rattle.bank.specs.Fields.{fromHeader}
@@ -18,7 +17,7 @@ use Rattle.records.specs.declared.luminaire_write.LuminaireNumbers.{Lumi
 use Rattle.records.specs.declared.luminaire_write.Plan.{Plan}
 use Rattle.records.specs.Plan.{planChecks, storesOf}
 use Rattle.records.specs.Cut.{cutBank}
-use Rattle.records.specs.Claim.{OldBank, begin, CutReadsBack}
+use Rattle.records.specs.Claim.{OldBank, Accepted, begin, CutReadsBack}
 
 module _ (numbers : LuminaireNumbers) (which : OptionUsize) (text : List ℕ) (old : List ℕ) where
   -- "the plan's layout is `Bank1Layout::from_header` of it"
@@ -53,10 +52,16 @@ module _ (numbers : LuminaireNumbers) (which : OptionUsize) (text : List ℕ) (o
       answersBehind answers =
           checked runChecks (λ _. answers) (laidInto (map answerNumber (answersOf chunkLen (begin cutOf buffer) calls)) answers)
 
--- The claim holds of every run that is not refused.
+-- A run of an accepted plan is not refused, and it is the one of which the claim holds.
+pub record RunReadsBack (numbers : LuminaireNumbers) (which : OptionUsize) (text old : List ℕ) (k : ℕ) (buffer : List ℕ) (calls : List Call) : Type 0 where
+  pub runs : readBack numbers which text old k buffer calls ≡ ResultReadOut.Ok (stateBehind numbers which text old k buffer calls .out)
+  pub leaves-cut : bankBehind numbers which text old k ≡ cutOf numbers which text old k
+  pub leaves-buffer : bufferBehind numbers which text old k buffer calls ≡ stateBehind numbers which text old k buffer calls .buffer
+  pub claim : CutReadsBack chunkLen old (planFor numbers which text old) text k (cutOf numbers which text old k) buffer calls
+
 abbrev pub EveryRunReadsBack : Type 0
 EveryRunReadsBack =
-    (numbers : LuminaireNumbers) (which : OptionUsize) (text old : List ℕ) (k : ℕ) (buffer : List ℕ) (calls : List Call) (out : ReadOut) →
-    OldBank old → readBack numbers which text old k buffer calls ≡ ResultReadOut.Ok out →
+    (numbers : LuminaireNumbers) (which : OptionUsize) (text old : List ℕ) (k : ℕ) (buffer : List ℕ) (calls : List Call) →
+    OldBank old → Accepted old (planFor numbers which text old) text →
     HoldsChunks chunkLen (cutOf numbers which text old k) (begin (cutOf numbers which text old k) buffer) calls →
-    CutReadsBack chunkLen old (planFor numbers which text old) text k (cutOf numbers which text old k) buffer calls
+    RunReadsBack numbers which text old k buffer calls
