@@ -23,15 +23,6 @@ kept c =
 loop-holds : tie.Need-loop-holds Inv-loop μ-loop
 loop-holds c = (refl, refl)
 
-answer-some-requires : tie.Need-answer-some-requires Inv-loop μ-loop
-answer-some-requires c κs = search needs
-
-sub-turns : tie.Need-sub-turns Inv-loop μ-loop
-sub-turns c = omega arith
-
-loop-less : tie.Need-loop-less Inv-loop μ-loop
-loop-less c = omega arith
-
 loop-again : tie.Need-loop-again Inv-loop μ-loop
 loop-again c = kept (c .before .before .before .before .before)
 
@@ -60,9 +51,9 @@ answer-all-spec =
     Inv-loop
     μ-loop
     loop-holds
-    answer-some-requires
-    sub-turns
-    loop-less
+    (λ c κs. search needs)
+    (λ c. omega arith)
+    (λ c. omega arith)
     loop-again
     same-length
     same-length-2

@@ -12,12 +12,6 @@ use Rattle.bus.proofs.classify.Tie as tie
 unmasked : (c : tie.Else1) → eqb (c .before .before .args .raw) (maskOf (c .before .before .args .width)) ≡ false
 unmasked c = ne-eqb _ _ (λ e. c .if1 .left (e ∙ sym (c .before .mask .ensures)))
 
-mask-requires : tie.Need-mask-requires
-mask-requires c κs = search needs
-
-tmask-requires : tie.Need-tmask-requires
-tmask-requires c κs = search needs
-
 returns : tie.Need-returns
 returns c = rw (eq-eqb _ _ (c .if1 .taken ∙ c .before .mask .ensures))
 
@@ -28,4 +22,4 @@ returns-3 : tie.Need-returns-3
 returns-3 c = rw (unmasked (c .before .before), ne-eqb _ _ (λ e. c .if2 .left (e ∙ sym (c .before .tmask .ensures))))
 
 pub classify-spec : {M : Type 1} → statement M
-classify-spec = tie.close (tie.spec mask-requires tmask-requires returns returns-2 returns-3)
+classify-spec = tie.close (tie.spec (λ c κs. search needs) (λ c κs. search needs) returns returns-2 returns-3)

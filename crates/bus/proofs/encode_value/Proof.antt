@@ -35,9 +35,6 @@ of-width l =
 low-long : (l : tie.At-loop Inv-loop μ-loop) → length (Low l) ≡ l .before .bytes .result
 low-long l = length-lowBytes (l .before .bytes .result) (l .before .before .before .args .raw)
 
-bytes-requires : tie.Need-bytes-requires Inv-loop μ-loop
-bytes-requires c κs = search needs
-
 loop-holds : tie.Need-loop-holds Inv-loop μ-loop
 loop-holds c = (omega arith, (omega arith, (refl, refl)))
 
@@ -54,29 +51,11 @@ returns c =
     ∙ laid-short (Low l) (a .out .now) (l .loop .i) i-all short
     ∙ of-width l
 
-sub-shift : tie.Need-sub-shift Inv-loop μ-loop
-sub-shift c = omega arith
-
-sub-shift-2 : tie.Need-sub-shift-2 Inv-loop μ-loop
-sub-shift-2 c = omega arith
-
 mul-shift : tie.Need-mul-shift Inv-loop μ-loop
 mul-shift c = omega (arith, sized (c .before .before .before .before .before .args .width))
 
 shr-out : tie.Need-shr-out Inv-loop μ-loop
 shr-out c = omega (arith, sized (c .before .before .before .before .before .args .width))
-
-cast-out : tie.Need-cast-out Inv-loop μ-loop
-cast-out c = search needs
-
-slice-write-out : tie.Need-slice-write-out Inv-loop μ-loop
-slice-write-out c = omega arith
-
-add-i : tie.Need-add-i Inv-loop μ-loop
-add-i c = omega arith
-
-loop-less : tie.Need-loop-less Inv-loop μ-loop
-loop-less c = omega arith
 
 loop-again : tie.Need-loop-again Inv-loop μ-loop
 loop-again c =
@@ -116,18 +95,18 @@ encode-value-spec =
     (tie.spec
     Inv-loop
     μ-loop
-    bytes-requires
+    (λ c κs. search needs)
     loop-holds
     same-length
     returns
-    sub-shift
-    sub-shift-2
+    (λ c. omega arith)
+    (λ c. omega arith)
     mul-shift
     shr-out
-    cast-out
-    slice-write-out
-    add-i
-    loop-less
+    (λ c. search needs)
+    (λ c. omega arith)
+    (λ c. omega arith)
+    (λ c. omega arith)
     loop-again
     same-length-2
     returns-2)

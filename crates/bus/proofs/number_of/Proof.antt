@@ -40,20 +40,11 @@ returns c =
 mul-number : tie.Need-mul-number Inv-loop μ-loop
 mul-number c = omega (arith, room (c .before))
 
-shared-slice-read-number : tie.Need-shared-slice-read-number Inv-loop μ-loop
-shared-slice-read-number c = omega arith
-
 cast-number : tie.Need-cast-number Inv-loop μ-loop
 cast-number c = omega (arith, byte c)
 
 add-number : tie.Need-add-number Inv-loop μ-loop
 add-number c = omega (arith, room (c .before .before), byte c)
-
-add-i : tie.Need-add-i Inv-loop μ-loop
-add-i c = omega arith
-
-loop-less : tie.Need-loop-less Inv-loop μ-loop
-loop-less c = omega arith
 
 loop-again : tie.Need-loop-again Inv-loop μ-loop
 loop-again c =
@@ -79,10 +70,10 @@ number-of-spec =
     loop-holds
     returns
     mul-number
-    shared-slice-read-number
+    (λ c. omega arith)
     cast-number
     add-number
-    add-i
-    loop-less
+    (λ c. omega arith)
+    (λ c. omega arith)
     loop-again
     returns-2)

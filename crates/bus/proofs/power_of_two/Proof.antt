@@ -9,11 +9,8 @@ use borrow.Author.Needs.{needs}
 use Rattle.bus.proofs.power_of_two.Statement.{statement}
 use Rattle.bus.proofs.power_of_two.Tie as tie
 
-shl-result : tie.Need-shl-result
-shl-result c = search needs
-
 returns : tie.Need-returns
 returns c = shl-exact {a = 1} 1 (c .args .exponent) 64 (lit< tt) (omega arith) ∙ one-mul _
 
 pub power-of-two-spec : {M : Type 1} → statement M
-power-of-two-spec = tie.close (tie.spec shl-result returns)
+power-of-two-spec = tie.close (tie.spec (λ c. search needs) returns)

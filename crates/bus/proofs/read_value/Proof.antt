@@ -15,41 +15,17 @@ use Rattle.bus.proofs.Width.{sized}
 use Rattle.bus.proofs.read_value.Statement.{statement}
 use Rattle.bus.proofs.read_value.Tie as tie
 
-bytes-requires : tie.Need-bytes-requires
-bytes-requires c κs = search needs
-
 returns : tie.Need-returns
 returns c =
     let a = c .before .before .before .args in
     let absent : length (a .bytes .now) < a .offset + bytesOf (a .width) = omega arith in
     rw (lt-leb _ _ absent)
 
-sub-if2 : tie.Need-sub-if2
-sub-if2 c = omega arith
-
 returns-2 : tie.Need-returns-2
 returns-2 c =
     let a = c .before .before .before .before .args in
     let absent : length (a .bytes .now) < a .offset + bytesOf (a .width) = omega arith in
     rw (lt-leb _ _ absent)
-
-add-number-of : tie.Need-add-number-of
-add-number-of c = omega arith
-
-sub-number-of : tie.Need-sub-number-of
-sub-number-of c = omega arith
-
-part-number-of-start : tie.Need-part-number-of-start
-part-number-of-start c = omega arith
-
-part-number-of-end : tie.Need-part-number-of-end
-part-number-of-end c = omega arith
-
-number-of-requires : tie.Need-number-of-requires
-number-of-requires c κs = search needs
-
-classify-requires : tie.Need-classify-requires
-classify-requires c κs = search needs
 
 returns-3 : tie.Need-returns-3
 returns-3 c =
@@ -69,14 +45,14 @@ pub read-value-spec : {M : Type 1} → statement M
 read-value-spec =
     tie.close
     (tie.spec
-    bytes-requires
+    (λ c κs. search needs)
     returns
-    sub-if2
+    (λ c. omega arith)
     returns-2
-    add-number-of
-    sub-number-of
-    part-number-of-start
-    part-number-of-end
-    number-of-requires
-    classify-requires
+    (λ c. omega arith)
+    (λ c. omega arith)
+    (λ c. omega arith)
+    (λ c. omega arith)
+    (λ c κs. search needs)
+    (λ c κs. search needs)
     returns-3)

@@ -17,9 +17,6 @@ meaning : (c : tie.After-to-signed) → toZ w64 (ofZ w64 (c .to-signed .result))
 meaning c =
     toZ-ofZ (record { sfits = c .to-signed .ok }) ∙ c .to-signed .ensures ∙ ap (signedMeaning 8) (mod-eq-of-lt (c .before .fits .raw .fits))
 
-to-signed-requires : tie.Need-to-signed-requires
-to-signed-requires c κs = search needs
-
 cast-result : tie.Need-cast-result
 cast-result c = rw (meaning c) (record { sfits = meaning-fits 8 (c .before .args .raw) (omega arith) (c .before .fits .raw .fits) })
 
@@ -27,4 +24,4 @@ returns : tie.Need-returns
 returns c = toZ-ofZ (cast-result c) ∙ meaning c
 
 pub signed-byte-spec : {M : Type 1} → statement M
-signed-byte-spec = tie.close (tie.spec to-signed-requires cast-result returns)
+signed-byte-spec = tie.close (tie.spec (λ c κs. search needs) cast-result returns)

@@ -26,18 +26,6 @@ returns c =
     let l = c .before .before in
     counted (l .loop .i) (l .loop .space) (omega arith)
 
-shared-slice-read-space : tie.Need-shared-slice-read-space Inv-loop μ-loop
-shared-slice-read-space c = omega arith
-
-slice-write-space : tie.Need-slice-write-space Inv-loop μ-loop
-slice-write-space c = omega arith
-
-add-i : tie.Need-add-i Inv-loop μ-loop
-add-i c = omega arith
-
-loop-less : tie.Need-loop-less Inv-loop μ-loop
-loop-less c = omega arith
-
 loop-again : tie.Need-loop-again Inv-loop μ-loop
 loop-again c = simp length-set (omega arith)
 
@@ -58,10 +46,10 @@ copy-spec =
     loop-holds
     same-length
     returns
-    shared-slice-read-space
-    slice-write-space
-    add-i
-    loop-less
+    (λ c. omega arith)
+    (λ c. omega arith)
+    (λ c. omega arith)
+    (λ c. omega arith)
     loop-again
     same-length-2
     returns-2)

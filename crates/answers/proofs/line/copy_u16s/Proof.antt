@@ -19,9 +19,6 @@ abbrev μ-loop : tie.MeasureT-loop
 loop-holds : tie.Need-loop-holds Inv-loop μ-loop
 loop-holds c = (omega arith, (omega arith, refl))
 
-add-loop : tie.Need-add-loop Inv-loop μ-loop
-add-loop c = omega arith
-
 same-length : tie.Need-same-length Inv-loop μ-loop
 same-length c = c .before .before .loop .inv .1 .1
 
@@ -29,33 +26,6 @@ returns : tie.Need-returns Inv-loop μ-loop
 returns c =
     let l = c .before .before in
     counted (l .loop .n) (l .loop .space) (omega arith)
-
-shared-slice-read-u16-of : tie.Need-shared-slice-read-u16-of Inv-loop μ-loop
-shared-slice-read-u16-of c = omega arith
-
-add-u16-of : tie.Need-add-u16-of Inv-loop μ-loop
-add-u16-of c = omega arith
-
-shared-slice-read-u16-of-2 : tie.Need-shared-slice-read-u16-of-2 Inv-loop μ-loop
-shared-slice-read-u16-of-2 c = omega arith
-
-u16-of-requires : tie.Need-u16-of-requires Inv-loop μ-loop
-u16-of-requires c κs = search needs
-
-mul-space : tie.Need-mul-space Inv-loop μ-loop
-mul-space c = omega arith
-
-slice-write-space : tie.Need-slice-write-space Inv-loop μ-loop
-slice-write-space c = omega arith
-
-add-n : tie.Need-add-n Inv-loop μ-loop
-add-n c = omega arith
-
-add-i : tie.Need-add-i Inv-loop μ-loop
-add-i c = omega arith
-
-loop-less : tie.Need-loop-less Inv-loop μ-loop
-loop-less c = omega arith
 
 loop-again : tie.Need-loop-again Inv-loop μ-loop
 loop-again c = simp length-set (omega arith)
@@ -75,18 +45,18 @@ copy-u16s-spec =
     Inv-loop
     μ-loop
     loop-holds
-    add-loop
+    (λ c. omega arith)
     same-length
     returns
-    shared-slice-read-u16-of
-    add-u16-of
-    shared-slice-read-u16-of-2
-    u16-of-requires
-    mul-space
-    slice-write-space
-    add-n
-    add-i
-    loop-less
+    (λ c. omega arith)
+    (λ c. omega arith)
+    (λ c. omega arith)
+    (λ c κs. search needs)
+    (λ c. omega arith)
+    (λ c. omega arith)
+    (λ c. omega arith)
+    (λ c. omega arith)
+    (λ c. omega arith)
     loop-again
     same-length-2
     returns-2)

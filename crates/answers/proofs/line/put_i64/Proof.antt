@@ -27,9 +27,6 @@ above (negsuc n) e = let z : _≡_ {A = ℕ} 0 1 = cc in let y : ⊥ = omega ari
 magnitude : {v : ℤ} → SFits w64 v → SFits w64 (pos (mag v))
 magnitude f = record { sfits = f .sfits }
 
-put-u8-requires : tie.Need-put-u8-requires
-put-u8-requires c κs = search needs
-
 -- what is put below zero
 under : (c : tie.Then1) → negsuc 0 -ℤ toZ w64 (ofZ w64 (c .before .before .args .v)) ≡ pos (mag (c .before .before .args .v))
 under c =
@@ -47,12 +44,6 @@ cast-put-u64 c =
     let t = c .before .before .before .before .before in
     rw (toZ-ofZ (sub-put-u64 c), under t) (tt, omega (arith, t .before .before .fits .v .sfits))
 
-put-u64-requires : tie.Need-put-u64-requires
-put-u64-requires c κs = search needs
-
-put-u8-requires-2 : tie.Need-put-u8-requires-2
-put-u8-requires-2 c κs = search needs
-
 cast-put-u64-2 : tie.Need-cast-put-u64-2
 cast-put-u64-2 c =
     let t = c .before .before .before .before .before in
@@ -60,33 +51,18 @@ cast-put-u64-2 c =
     let v = t .before .before .args .v in
     rw (same ∙ above v (ap (λ (z : ℤ). ltZ z (pos 0)) (sym same) ∙ t .if1 .left)) (tt, omega (arith, t .before .before .fits .v .sfits))
 
-put-u64-requires-2 : tie.Need-put-u64-requires-2
-put-u64-requires-2 c κs = search needs
-
-same-length : tie.Need-same-length
-same-length c = search needs
-
-returns : tie.Need-returns
-returns c = search needs
-
-same-length-2 : tie.Need-same-length-2
-same-length-2 c = search needs
-
-returns-2 : tie.Need-returns-2
-returns-2 c = search needs
-
 pub put-i64-spec : {M : Type 1} → statement M
 put-i64-spec =
     tie.close
     (tie.spec
-    put-u8-requires
+    (λ c κs. search needs)
     sub-put-u64
     cast-put-u64
-    put-u64-requires
-    put-u8-requires-2
+    (λ c κs. search needs)
+    (λ c κs. search needs)
     cast-put-u64-2
-    put-u64-requires-2
-    same-length
-    returns
-    same-length-2
-    returns-2)
+    (λ c κs. search needs)
+    (λ c. search needs)
+    (λ c. search needs)
+    (λ c. search needs)
+    (λ c. search needs))

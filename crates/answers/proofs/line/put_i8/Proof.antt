@@ -9,14 +9,5 @@ use Rattle.answers.proofs.line.put_i8.Tie as tie
 cast-put-i64 : tie.Need-cast-put-i64
 cast-put-i64 c = rw (toZ-ofZ (c .before .before .fits .v)) (record { sfits = omega (arith, c .before .before .fits .v .sfits) })
 
-put-i64-requires : tie.Need-put-i64-requires
-put-i64-requires c κs = search needs
-
-same-length : tie.Need-same-length
-same-length c = search needs
-
-returns : tie.Need-returns
-returns c = search needs
-
 pub put-i8-spec : {M : Type 1} → statement M
-put-i8-spec = tie.close (tie.spec cast-put-i64 put-i64-requires same-length returns)
+put-i8-spec = tie.close (tie.spec cast-put-i64 (λ c κs. search needs) (λ c. search needs) (λ c. search needs))

@@ -18,18 +18,6 @@ abbrev μ-loop : tie.MeasureT-loop
 loop-holds : tie.Need-loop-holds Inv-loop μ-loop
 loop-holds c = refl
 
-shared-slice-read-put-u8 : tie.Need-shared-slice-read-put-u8 Inv-loop μ-loop
-shared-slice-read-put-u8 c = omega arith
-
-put-u8-requires : tie.Need-put-u8-requires Inv-loop μ-loop
-put-u8-requires c κs = search needs
-
-add-i : tie.Need-add-i Inv-loop μ-loop
-add-i c = omega arith
-
-loop-less : tie.Need-loop-less Inv-loop μ-loop
-loop-less c = omega arith
-
 loop-again : tie.Need-loop-again Inv-loop μ-loop
 loop-again c = c .before .before .put-u8 .kept .0 ∙ c .before .before .before .before .before .before .loop .inv
 
@@ -46,10 +34,10 @@ put-slice-spec =
     Inv-loop
     μ-loop
     loop-holds
-    shared-slice-read-put-u8
-    put-u8-requires
-    add-i
-    loop-less
+    (λ c. omega arith)
+    (λ c κs. search needs)
+    (λ c. omega arith)
+    (λ c. omega arith)
     loop-again
     same-length
     returns)

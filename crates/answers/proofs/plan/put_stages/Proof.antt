@@ -14,33 +14,6 @@ Inv-loop text₀ n write bytes count m₀ place₀ text m place = length text �
 abbrev μ-loop : tie.MeasureT-loop
 μ-loop text₀ n write bytes count m₀ place₀ text m place = count - place
 
-stages-requires : tie.Need-stages-requires Inv-loop μ-loop
-stages-requires c κs = search needs
-
-put-u64-requires : tie.Need-put-u64-requires Inv-loop μ-loop
-put-u64-requires c κs = search needs
-
-loop-holds : tie.Need-loop-holds Inv-loop μ-loop
-loop-holds c = search needs
-
-stage-requires : tie.Need-stage-requires Inv-loop μ-loop
-stage-requires c κs = search needs
-
-put-option-stage-requires : tie.Need-put-option-stage-requires Inv-loop μ-loop
-put-option-stage-requires c κs = search needs
-
-add-place : tie.Need-add-place Inv-loop μ-loop
-add-place c = omega arith
-
-loop-less : tie.Need-loop-less Inv-loop μ-loop
-loop-less c = omega arith
-
-loop-again : tie.Need-loop-again Inv-loop μ-loop
-loop-again c = omega arith
-
-same-length : tie.Need-same-length Inv-loop μ-loop
-same-length c = omega arith
-
 returns : tie.Need-returns Inv-loop μ-loop
 returns c = tt
 
@@ -50,13 +23,13 @@ put-stages-spec =
     (tie.spec
     Inv-loop
     μ-loop
-    stages-requires
-    put-u64-requires
-    loop-holds
-    stage-requires
-    put-option-stage-requires
-    add-place
-    loop-less
-    loop-again
-    same-length
+    (λ c κs. search needs)
+    (λ c κs. search needs)
+    (λ c. search needs)
+    (λ c κs. search needs)
+    (λ c κs. search needs)
+    (λ c. omega arith)
+    (λ c. omega arith)
+    (λ c. omega arith)
+    (λ c. omega arith)
     returns)

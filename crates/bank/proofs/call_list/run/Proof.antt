@@ -31,59 +31,11 @@ chunk-ends c =
 loop-holds : tie.Need-loop-holds Inv-loop μ-loop
 loop-holds c = (omega arith, omega arith, omega arith, refl, record { ends = refl; stores = refl })
 
-sub-loop : tie.Need-sub-loop Inv-loop μ-loop
-sub-loop c = omega arith
-
-add-len : tie.Need-add-len Inv-loop μ-loop
-add-len c = omega arith
-
-mul-len : tie.Need-mul-len Inv-loop μ-loop
-mul-len c = omega arith
-
-shared-slice-read-len : tie.Need-shared-slice-read-len Inv-loop μ-loop
-shared-slice-read-len c = omega arith
-
-sub-chunk-of : tie.Need-sub-chunk-of Inv-loop μ-loop
-sub-chunk-of c = omega arith
-
-chunk-of-requires : tie.Need-chunk-of-requires Inv-loop μ-loop
-chunk-of-requires c κs = search needs
-
 add-end : tie.Need-add-end Inv-loop μ-loop
 add-end c = omega (arith, chunk-ends c)
 
-mul-call : tie.Need-mul-call Inv-loop μ-loop
-mul-call c = omega arith
-
-shared-slice-read-call : tie.Need-shared-slice-read-call Inv-loop μ-loop
-shared-slice-read-call c = omega arith
-
-sub-call : tie.Need-sub-call Inv-loop μ-loop
-sub-call c = omega arith
-
-part-call-start : tie.Need-part-call-start Inv-loop μ-loop
-part-call-start c = omega arith
-
 part-call-end : tie.Need-part-call-end Inv-loop μ-loop
 part-call-end c = omega (arith, chunk-ends (c .before))
-
-call-requires : tie.Need-call-requires Inv-loop μ-loop
-call-requires c κs = search needs
-
-mul-answers : tie.Need-mul-answers Inv-loop μ-loop
-mul-answers c = omega arith
-
-slice-write-answers : tie.Need-slice-write-answers Inv-loop μ-loop
-slice-write-answers c = omega arith
-
-add-count : tie.Need-add-count Inv-loop μ-loop
-add-count c = omega arith
-
-add-i : tie.Need-add-i Inv-loop μ-loop
-add-i c = omega arith
-
-loop-less : tie.Need-loop-less Inv-loop μ-loop
-loop-less c = omega arith
 
 loop-again : tie.Need-loop-again Inv-loop μ-loop
 loop-again c =
@@ -117,24 +69,24 @@ run-spec =
     Inv-loop
     μ-loop
     loop-holds
-    sub-loop
-    add-len
-    mul-len
-    shared-slice-read-len
-    sub-chunk-of
-    chunk-of-requires
+    (λ c. omega arith)
+    (λ c. omega arith)
+    (λ c. omega arith)
+    (λ c. omega arith)
+    (λ c. omega arith)
+    (λ c κs. search needs)
     add-end
-    mul-call
-    shared-slice-read-call
-    sub-call
-    part-call-start
+    (λ c. omega arith)
+    (λ c. omega arith)
+    (λ c. omega arith)
+    (λ c. omega arith)
     part-call-end
-    call-requires
-    mul-answers
-    slice-write-answers
-    add-count
-    add-i
-    loop-less
+    (λ c κs. search needs)
+    (λ c. omega arith)
+    (λ c. omega arith)
+    (λ c. omega arith)
+    (λ c. omega arith)
+    (λ c. omega arith)
     loop-again
     same-length
     same-length-2

@@ -29,59 +29,20 @@ by-map : {told : BankMap} {t : FieldMap} → t ≡ tableOf told → (c : tie.Aft
     wholeFields (a .remaining) (c .before .smaller .result) (fieldsFrom (a .offset) (entries t)) ≡ chunkLen (a .bank) (a .offset) (a .remaining) (a .budget))
 by-map at c t = chunk-map c (in-table (λ (xs : List BankField). xs) at t (c .map-of .ensures))
 
-smaller-requires : tie.Need-smaller-requires
-smaller-requires c κs = search needs
-
-map-of-requires : tie.Need-map-of-requires
-map-of-requires c κs = search needs
-
-enum-told : tie.Need-enum-told
-enum-told c = search needs
-
-luminaire-info-map-requires : tie.Need-luminaire-info-map-requires
-luminaire-info-map-requires c κs = search needs
-
 whole-fields-requires : tie.Need-whole-fields-requires
 whole-fields-requires c κs = table-fits LuminaireInfo (c .luminaire-info-map .ensures)
-
-enum-told-2 : tie.Need-enum-told-2
-enum-told-2 c = search needs
-
-energy-map-requires : tie.Need-energy-map-requires
-energy-map-requires c κs = search needs
 
 whole-fields-requires-2 : tie.Need-whole-fields-requires-2
 whole-fields-requires-2 c κs = table-fits Energy (c .energy-map .ensures)
 
-enum-told-3 : tie.Need-enum-told-3
-enum-told-3 c = search needs
-
-gear-diagnostics-map-requires : tie.Need-gear-diagnostics-map-requires
-gear-diagnostics-map-requires c κs = search needs
-
 whole-fields-requires-3 : tie.Need-whole-fields-requires-3
 whole-fields-requires-3 c κs = table-fits GearDiagnostics (c .gear-diagnostics-map .ensures)
-
-enum-told-4 : tie.Need-enum-told-4
-enum-told-4 c = search needs
-
-source-diagnostics-map-requires : tie.Need-source-diagnostics-map-requires
-source-diagnostics-map-requires c κs = search needs
 
 whole-fields-requires-4 : tie.Need-whole-fields-requires-4
 whole-fields-requires-4 c κs = table-fits SourceDiagnostics (c .source-diagnostics-map .ensures)
 
-enum-told-5 : tie.Need-enum-told-5
-enum-told-5 c = search needs
-
-maintenance-map-requires : tie.Need-maintenance-map-requires
-maintenance-map-requires c κs = search needs
-
 whole-fields-requires-5 : tie.Need-whole-fields-requires-5
 whole-fields-requires-5 c κs = table-fits Maintenance (c .maintenance-map .ensures)
-
-enum-told-6 : tie.Need-enum-told-6
-enum-told-6 c = search needs
 
 returns : tie.Need-returns
 returns c = c .whole-fields .ensures ∙ by-map (c .before .luminaire-info-map .ensures) (c .before .before .before .before) (c .before .before .enum-told .given .1)
@@ -106,24 +67,24 @@ pub chunk-len-spec : {M : Type 1} → statement M
 chunk-len-spec =
     tie.close
     (tie.spec
-    smaller-requires
-    map-of-requires
-    enum-told
-    luminaire-info-map-requires
+    (λ c κs. search needs)
+    (λ c κs. search needs)
+    (λ c. search needs)
+    (λ c κs. search needs)
     whole-fields-requires
-    enum-told-2
-    energy-map-requires
+    (λ c. search needs)
+    (λ c κs. search needs)
     whole-fields-requires-2
-    enum-told-3
-    gear-diagnostics-map-requires
+    (λ c. search needs)
+    (λ c κs. search needs)
     whole-fields-requires-3
-    enum-told-4
-    source-diagnostics-map-requires
+    (λ c. search needs)
+    (λ c κs. search needs)
     whole-fields-requires-4
-    enum-told-5
-    maintenance-map-requires
+    (λ c. search needs)
+    (λ c κs. search needs)
     whole-fields-requires-5
-    enum-told-6
+    (λ c. search needs)
     returns
     returns-2
     returns-3

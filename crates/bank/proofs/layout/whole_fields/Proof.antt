@@ -69,15 +69,6 @@ mul-field c = omega (arith, c .before .before .pre)
 element-copy-out-field : tie.Need-element-copy-out-field Inv-loop μ-loop Inv-loop2 μ-loop2
 element-copy-out-field c = omega (arith, c .before .before .pre)
 
-cast-if1 : tie.Need-cast-if1 Inv-loop μ-loop Inv-loop2 μ-loop2
-cast-if1 c = search needs
-
-add-i : tie.Need-add-i Inv-loop μ-loop Inv-loop2 μ-loop2
-add-i c = omega arith
-
-loop-less : tie.Need-loop-less Inv-loop μ-loop Inv-loop2 μ-loop2
-loop-less c = omega arith
-
 loop-again : tie.Need-loop-again Inv-loop μ-loop Inv-loop2 μ-loop2
 loop-again c =
     let l = c .before .before .before .before in
@@ -93,9 +84,6 @@ mul-first c = omega (arith, c .before .before .before .pre)
 
 element-copy-out-first : tie.Need-element-copy-out-first Inv-loop μ-loop Inv-loop2 μ-loop2
 element-copy-out-first c = omega (arith, c .before .before .before .pre)
-
-bytes-requires : tie.Need-bytes-requires Inv-loop μ-loop Inv-loop2 μ-loop2
-bytes-requires c κs = search needs
 
 cast-taken : tie.Need-cast-taken Inv-loop μ-loop Inv-loop2 μ-loop2
 cast-taken c =
@@ -123,9 +111,6 @@ mul-field-2 c = omega (arith, c .before .before .before .before .before .before 
 element-copy-out-field-2 : tie.Need-element-copy-out-field-2 Inv-loop μ-loop Inv-loop2 μ-loop2
 element-copy-out-field-2 c = omega (arith, c .before .before .before .before .before .before .before .before .pre)
 
-bytes-requires-2 : tie.Need-bytes-requires-2 Inv-loop μ-loop Inv-loop2 μ-loop2
-bytes-requires-2 c κs = search needs
-
 cast-bytes : tie.Need-cast-bytes Inv-loop μ-loop Inv-loop2 μ-loop2
 cast-bytes c =
     let l = c .before .before .before in
@@ -148,9 +133,6 @@ add-taken c = omega (arith, c .before .before .before .before .before .before .b
 
 add-i-3 : tie.Need-add-i-3 Inv-loop μ-loop Inv-loop2 μ-loop2
 add-i-3 c = omega (arith, c .before .before .before .before .before .before .before .before .before .before .before .before .pre)
-
-loop2-less : tie.Need-loop2-less Inv-loop μ-loop Inv-loop2 μ-loop2
-loop2-less c = omega arith
 
 loop2-again : tie.Need-loop2-again Inv-loop μ-loop Inv-loop2 μ-loop2
 loop2-again c =
@@ -178,26 +160,26 @@ whole-fields-spec =
     loop-holds
     mul-field
     element-copy-out-field
-    cast-if1
-    add-i
-    loop-less
+    (λ c. search needs)
+    (λ c. omega arith)
+    (λ c. omega arith)
     loop-again
     returns
     mul-first
     element-copy-out-first
-    bytes-requires
+    (λ c κs. search needs)
     cast-taken
     returns-2
     add-i-2
     loop2-holds
     mul-field-2
     element-copy-out-field-2
-    bytes-requires-2
+    (λ c κs. search needs)
     cast-bytes
     returns-3
     returns-4
     add-taken
     add-i-3
-    loop2-less
+    (λ c. omega arith)
     loop2-again
     returns-5)

@@ -46,40 +46,19 @@ from-5 : (c : tie.After-format2)
 unfolding firstOf
 from-5 c = rw (writable (passed-1 (passed-2 (read-last c))), there (passed-2 (read-last c)), read-last c .last-offset .given .1, format-is c)
 
-is-layout-id-requires : tie.Need-is-layout-id-requires
-is-layout-id-requires c κs = search needs
-
 returns : tie.Need-returns
 unfolding firstOf checkWritable
 returns c = rw (sym (c .before .is-layout-id .ensures) ∙ c .if1 .taken)
 
-is-missing-requires : tie.Need-is-missing-requires
-is-missing-requires c κs = search needs
-
 returns-2 : tie.Need-returns-2
 unfolding firstOf checkWritable
 returns-2 c = rw (writable (c .before .before), sym (c .before .is-missing .ensures) ∙ c .if2 .taken)
-
-enum-known-last-offset : tie.Need-enum-known-last-offset
-enum-known-last-offset c = search needs
-
-enum-told : tie.Need-enum-told
-enum-told c = search needs
 
 returns-3 : tie.Need-returns-3
 unfolding firstOf checkWritable
 returns-3 c =
     let two = c .before .before in
     rw (writable (passed-1 two), there two, c .enum-told .given .1)
-
-format-requires : tie.Need-format-requires
-format-requires c κs = search needs
-
-enum-known-format : tie.Need-enum-known-format
-enum-known-format c = search needs
-
-enum-told-2 : tie.Need-enum-told-2
-enum-told-2 c = search needs
 
 returns-4 : tie.Need-returns-4
 unfolding firstOf checkWritable
@@ -89,15 +68,9 @@ returns-4 c =
     let none-there = told-format (formatIn (start two .args .layout .«content_format_id»)) (c .before .before .format .ensures) (c .enum-told2 .given .1) in
     rw (writable (passed-1 two), there two, last .last-offset .given .1, none-there)
 
-in-format-requires : tie.Need-in-format-requires
-in-format-requires c κs = search needs
-
 returns-5 : tie.Need-returns-5
 unfolding checkWritable
 returns-5 c = rw (from-5 (c .before .before .before), sym (c .before .in-format .ensures) ∙ not-true _ (c .if3 .taken))
-
-ends-by-requires : tie.Need-ends-by-requires
-ends-by-requires c κs = search needs
 
 returns-6 : tie.Need-returns-6
 unfolding checkWritable
@@ -111,19 +84,19 @@ pub check-writable-spec : {M : Type 1} → statement M
 check-writable-spec =
     tie.close
     (tie.spec
-    is-layout-id-requires
+    (λ c κs. search needs)
     returns
-    is-missing-requires
+    (λ c κs. search needs)
     returns-2
-    enum-known-last-offset
-    enum-told
+    (λ c. search needs)
+    (λ c. search needs)
     returns-3
-    format-requires
-    enum-known-format
-    enum-told-2
+    (λ c κs. search needs)
+    (λ c. search needs)
+    (λ c. search needs)
     returns-4
-    in-format-requires
+    (λ c κs. search needs)
     returns-5
-    ends-by-requires
+    (λ c κs. search needs)
     returns-6
     returns-7)

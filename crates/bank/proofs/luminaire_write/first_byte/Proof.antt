@@ -11,11 +11,8 @@ use Rattle.bank.proofs.luminaire_write.first_byte.Tie as tie
 returns : tie.Need-returns
 returns c = ap optionU8 (sym (no-first (c .before .args .header .now) (c .if1 .taken)))
 
-shared-slice-read-t5 : tie.Need-shared-slice-read-t5
-shared-slice-read-t5 c = search needs
-
 returns-2 : tie.Need-returns-2
 returns-2 c = ap optionU8 (sym (first (c .before .before .args .header .now) (omega arith)))
 
 pub first-byte-spec : {M : Type 1} → statement M
-first-byte-spec = tie.close (tie.spec returns shared-slice-read-t5 returns-2)
+first-byte-spec = tie.close (tie.spec returns (λ c. search needs) returns-2)

@@ -14,17 +14,8 @@ use Rattle.bank.proofs.luminaire_write.fits.Tie as tie
 returns : tie.Need-returns
 returns c = sym (lt-ltb (c .before .args .value) (2 ^ (8 * c .before .args .len)) (omega (arith, pow-mono {i = 64} {j = 8 * c .before .args .len} (omega arith))))
 
-mul-result : tie.Need-mul-result
-mul-result c = search needs
-
-cast-result : tie.Need-cast-result
-cast-result c = search needs
-
-shl-result : tie.Need-shl-result
-shl-result c = search needs
-
 returns-2 : tie.Need-returns-2
 returns-2 c = ap (ltb (c .before .args .value)) (shl-exact {a = 1} 1 (8 * c .before .args .len) 64 (lit< tt) (omega arith) ∙ one-mul _)
 
 pub fits-spec : {M : Type 1} → statement M
-fits-spec = tie.close (tie.spec returns mul-result cast-result shl-result returns-2)
+fits-spec = tie.close (tie.spec returns (λ c. search needs) (λ c. search needs) (λ c. search needs) returns-2)

@@ -10,29 +10,8 @@ use Rattle.bank.proofs.Header.{no-id, id}
 use Rattle.bank.proofs.luminaire_write.id_in.Statement.{statement}
 use Rattle.bank.proofs.luminaire_write.id_in.Tie as tie
 
-cast-at : tie.Need-cast-at
-cast-at c = search needs
-
-add-if1 : tie.Need-add-if1
-add-if1 c = search needs
-
 returns : tie.Need-returns
 returns c = ap optionU16 (sym (no-id (c .before .before .args .header .now) (omega arith)))
-
-add-number-of : tie.Need-add-number-of
-add-number-of c = search needs
-
-sub-number-of : tie.Need-sub-number-of
-sub-number-of c = search needs
-
-part-number-of-start : tie.Need-part-number-of-start
-part-number-of-start c = search needs
-
-part-number-of-end : tie.Need-part-number-of-end
-part-number-of-end c = search needs
-
-number-of-requires : tie.Need-number-of-requires
-number-of-requires c κs = search needs
 
 cast-t10 : tie.Need-cast-t10
 cast-t10 c = omega (arith, part-below (c .before .before .before .before .args .header .now) 17 2 (c .number-of .ensures .1))
@@ -46,13 +25,13 @@ pub id-in-spec : {M : Type 1} → statement M
 id-in-spec =
     tie.close
     (tie.spec
-    cast-at
-    add-if1
+    (λ c. search needs)
+    (λ c. search needs)
     returns
-    add-number-of
-    sub-number-of
-    part-number-of-start
-    part-number-of-end
-    number-of-requires
+    (λ c. search needs)
+    (λ c. search needs)
+    (λ c. search needs)
+    (λ c. search needs)
+    (λ c κs. search needs)
     cast-t10
     returns-2)

@@ -19,9 +19,6 @@ late c = le-leb 4 (idOf (c .before .before .before .args .format)) (omega (arith
 returns : tie.Need-returns
 returns c = rw (le-leb _ _ (c .if1 .taken))
 
-content-format-id-requires : tie.Need-content-format-id-requires
-content-format-id-requires c κs = search needs
-
 returns-2 : tie.Need-returns-2
 returns-2 c = rw (above (c .before .before), lt-leb 4 (idOf (c .before .before .before .args .format)) (omega (arith, c .before .content-format-id .ensures)))
 
@@ -42,4 +39,4 @@ returns-6 c =
 pub is-distribution-type-spec : {M : Type 1} → statement M
 is-distribution-type-spec =
     tie.close
-    (tie.spec returns content-format-id-requires returns-2 returns-3 returns-4 returns-5 returns-6)
+    (tie.spec returns (λ c κs. search needs) returns-2 returns-3 returns-4 returns-5 returns-6)

@@ -6,12 +6,6 @@ use borrow.Author.Needs.{needs}
 use Rattle.bank.proofs.part251.cct.Statement.{statement}
 use Rattle.bank.proofs.part251.cct.Tie as tie
 
-shows-back-requires : tie.Need-shows-back-requires
-shows-back-requires c κs = search needs
-
-sub-if2 : tie.Need-sub-if2
-sub-if2 c = search needs
-
 returns : tie.Need-returns
 returns c = rw (sym (c .before .shows-back .ensures) ∙ c .if1 .taken, eq-eqb (c .before .before .args .raw) (c .before .before .args .raw) refl)
 
@@ -22,4 +16,4 @@ returns-3 : tie.Need-returns-3
 returns-3 c = rw (sym (c .before .before .shows-back .ensures) ∙ c .before .if1 .left, ne-eqb _ _ (c .if2 .left))
 
 pub cct-spec : {M : Type 1} → statement M
-cct-spec = tie.close (tie.spec shows-back-requires sub-if2 returns returns-2 returns-3)
+cct-spec = tie.close (tie.spec (λ c κs. search needs) (λ c. search needs) returns returns-2 returns-3)

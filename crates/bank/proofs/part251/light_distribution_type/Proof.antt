@@ -15,9 +15,6 @@ in-rule c = sym (c .before .shows-back .ensures) ∙ c .if1 .taken
 outside : (c : tie.Else1) → shows NumberRule.LightDistributionType (c .before .before .args .format) (c .before .before .args .raw) ≡ false
 outside c = sym (c .before .shows-back .ensures) ∙ c .if1 .left
 
-shows-back-requires : tie.Need-shows-back-requires
-shows-back-requires c κs = search needs
-
 returns : tie.Need-returns
 returns c = rw (in-rule (c .before), c .match .keys1)
 
@@ -41,4 +38,4 @@ returns-6 c = rw (outside (c .before), ne-eqb _ 255 (c .if2 .left))
 pub light-distribution-type-spec : {M : Type 1} → statement M
 light-distribution-type-spec =
     tie.close
-    (tie.spec shows-back-requires returns returns-2 returns-3 returns-4 returns-5 returns-6)
+    (tie.spec (λ c κs. search needs) returns returns-2 returns-3 returns-4 returns-5 returns-6)

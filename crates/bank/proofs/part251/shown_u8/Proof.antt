@@ -5,9 +5,6 @@ use borrow.Author.Needs.{needs}
 use Rattle.bank.proofs.part251.shown_u8.Statement.{statement}
 use Rattle.bank.proofs.part251.shown_u8.Tie as tie
 
-shows-back-requires : tie.Need-shows-back-requires
-shows-back-requires c κs = search needs
-
 returns : tie.Need-returns
 returns c = rw (sym (c .before .shows-back .ensures) ∙ c .if1 .taken)
 
@@ -15,4 +12,4 @@ returns-2 : tie.Need-returns-2
 returns-2 c = rw (sym (c .before .shows-back .ensures) ∙ c .if1 .left)
 
 pub shown-u8-spec : {M : Type 1} → statement M
-shown-u8-spec = tie.close (tie.spec shows-back-requires returns returns-2)
+shown-u8-spec = tie.close (tie.spec (λ c κs. search needs) returns returns-2)

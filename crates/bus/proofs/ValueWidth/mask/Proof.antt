@@ -20,17 +20,8 @@ as-number false = refl
 sign : (c : tie.After-is-signed) → boolByte (c .is-signed .result) ≡ signBits (c .before .before .args .self)
 sign c = as-number (c .is-signed .result) ∙ ap (λ (b : Bool). cond b 1 0) (c .is-signed .ensures)
 
-bytes-requires : tie.Need-bytes-requires
-bytes-requires c κs = search needs
-
 mul-power-of-two : tie.Need-mul-power-of-two
 mul-power-of-two c = omega (arith, sized (c .before .args .self))
-
-is-signed-requires : tie.Need-is-signed-requires
-is-signed-requires c κs = search needs
-
-cast-power-of-two : tie.Need-cast-power-of-two
-cast-power-of-two c = search needs
 
 sub-power-of-two : tie.Need-sub-power-of-two
 sub-power-of-two c =
@@ -56,10 +47,10 @@ pub mask-spec : {M : Type 1} → statement M
 mask-spec =
     tie.close
     (tie.spec
-    bytes-requires
+    (λ c κs. search needs)
     mul-power-of-two
-    is-signed-requires
-    cast-power-of-two
+    (λ c κs. search needs)
+    (λ c. search needs)
     sub-power-of-two
     power-of-two-requires
     sub-result

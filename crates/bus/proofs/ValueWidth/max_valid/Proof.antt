@@ -6,14 +6,8 @@ use Rattle.bus.proofs.Width.{mask-large}
 use Rattle.bus.proofs.ValueWidth.max_valid.Statement.{statement}
 use Rattle.bus.proofs.ValueWidth.max_valid.Tie as tie
 
-mask-requires : tie.Need-mask-requires
-mask-requires c κs = search needs
-
 sub-result : tie.Need-sub-result
 sub-result c = omega (arith, mask-large (c .before .args .self))
 
-returns : tie.Need-returns
-returns c = search needs
-
 pub max-valid-spec : {M : Type 1} → statement M
-max-valid-spec = tie.close (tie.spec mask-requires sub-result returns)
+max-valid-spec = tie.close (tie.spec (λ c κs. search needs) sub-result (λ c. search needs))

@@ -57,9 +57,6 @@ module _ (c : tie.After-power-of-two) where
   of-width : signedMeaning (bitsOf Width) Low ≡ toSigned Width Raw
   of-width = ap (λ (r : ℕ). signedMeaning (bitsOf Width) (Raw % r)) range-is
 
-bytes-requires : tie.Need-bytes-requires
-bytes-requires c κs = search needs
-
 mul-power-of-two : tie.Need-mul-power-of-two
 mul-power-of-two c = omega (arith, sized (c .before .args .self))
 
@@ -103,7 +100,7 @@ pub to-signed-spec : {M : Type 1} → statement M
 to-signed-spec =
     tie.close
     (tie.spec
-    bytes-requires
+    (λ c κs. search needs)
     mul-power-of-two
     power-of-two-requires
     rem-low

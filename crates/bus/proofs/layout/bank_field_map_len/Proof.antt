@@ -8,14 +8,8 @@ use borrow.Author.Needs.{needs}
 use Rattle.bus.proofs.layout.bank_field_map_len.Statement.{statement}
 use Rattle.bus.proofs.layout.bank_field_map_len.Tie as tie
 
-map-of-requires : tie.Need-map-of-requires
-map-of-requires c κs = search needs
-
-map-len-requires : tie.Need-map-len-requires
-map-len-requires c κs = search needs
-
 returns : tie.Need-returns
 returns c = c .map-len .ensures ∙ ap (λ (m : BankMap). length (fields m)) (c .before .map-of .ensures)
 
 pub bank-field-map-len-spec : {M : Type 1} → statement M
-bank-field-map-len-spec = tie.close (tie.spec map-of-requires map-len-requires returns)
+bank-field-map-len-spec = tie.close (tie.spec (λ c κs. search needs) (λ c κs. search needs) returns)

@@ -8,14 +8,8 @@ use borrow.Author.Needs.{needs}
 use Rattle.bus.proofs.layout.bank_last_offset.Statement.{statement}
 use Rattle.bus.proofs.layout.bank_last_offset.Tie as tie
 
-map-of-requires : tie.Need-map-of-requires
-map-of-requires c κs = search needs
-
-map-last-offset-requires : tie.Need-map-last-offset-requires
-map-last-offset-requires c κs = search needs
-
 returns : tie.Need-returns
 returns c = c .map-last-offset .ensures ∙ ap (λ (m : BankMap). optionU8 (fixedLast m)) (c .before .map-of .ensures)
 
 pub bank-last-offset-spec : {M : Type 1} → statement M
-bank-last-offset-spec = tie.close (tie.spec map-of-requires map-last-offset-requires returns)
+bank-last-offset-spec = tie.close (tie.spec (λ c κs. search needs) (λ c κs. search needs) returns)

@@ -15,56 +15,20 @@ use Rattle.bus.proofs.layout.field_containing.Tie as tie
 by-map : {m told is : BankMap} {t : FieldMap} (o : ℕ) → t ≡ tableOf told → m ≡ told → m ≡ is → optionBankField (firstWith (holds o) (entries t)) ≡ optionBankField (firstWith (holds o) (fields is))
 by-map o at t e = in-table (λ xs. optionBankField (firstWith (holds o) xs)) at t e
 
-map-of-requires : tie.Need-map-of-requires
-map-of-requires c κs = search needs
-
-enum-told : tie.Need-enum-told
-enum-told c = search needs
-
-luminaire-info-map-requires : tie.Need-luminaire-info-map-requires
-luminaire-info-map-requires c κs = search needs
-
 containing-requires : tie.Need-containing-requires
 containing-requires c κs = table-fits LuminaireInfo (c .luminaire-info-map .ensures)
-
-enum-told-2 : tie.Need-enum-told-2
-enum-told-2 c = search needs
-
-energy-map-requires : tie.Need-energy-map-requires
-energy-map-requires c κs = search needs
 
 containing-requires-2 : tie.Need-containing-requires-2
 containing-requires-2 c κs = table-fits Energy (c .energy-map .ensures)
 
-enum-told-3 : tie.Need-enum-told-3
-enum-told-3 c = search needs
-
-gear-diagnostics-map-requires : tie.Need-gear-diagnostics-map-requires
-gear-diagnostics-map-requires c κs = search needs
-
 containing-requires-3 : tie.Need-containing-requires-3
 containing-requires-3 c κs = table-fits GearDiagnostics (c .gear-diagnostics-map .ensures)
-
-enum-told-4 : tie.Need-enum-told-4
-enum-told-4 c = search needs
-
-source-diagnostics-map-requires : tie.Need-source-diagnostics-map-requires
-source-diagnostics-map-requires c κs = search needs
 
 containing-requires-4 : tie.Need-containing-requires-4
 containing-requires-4 c κs = table-fits SourceDiagnostics (c .source-diagnostics-map .ensures)
 
-enum-told-5 : tie.Need-enum-told-5
-enum-told-5 c = search needs
-
-maintenance-map-requires : tie.Need-maintenance-map-requires
-maintenance-map-requires c κs = search needs
-
 containing-requires-5 : tie.Need-containing-requires-5
 containing-requires-5 c κs = table-fits Maintenance (c .maintenance-map .ensures)
-
-enum-told-6 : tie.Need-enum-told-6
-enum-told-6 c = search needs
 
 returns : tie.Need-returns
 returns c = c .containing .ensures ∙ by-map _ (c .before .luminaire-info-map .ensures) (c .before .before .enum-told .given .1) (c .before .before .before .before .map-of .ensures)
@@ -89,23 +53,23 @@ pub field-containing-spec : {M : Type 1} → statement M
 field-containing-spec =
     tie.close
     (tie.spec
-    map-of-requires
-    enum-told
-    luminaire-info-map-requires
+    (λ c κs. search needs)
+    (λ c. search needs)
+    (λ c κs. search needs)
     containing-requires
-    enum-told-2
-    energy-map-requires
+    (λ c. search needs)
+    (λ c κs. search needs)
     containing-requires-2
-    enum-told-3
-    gear-diagnostics-map-requires
+    (λ c. search needs)
+    (λ c κs. search needs)
     containing-requires-3
-    enum-told-4
-    source-diagnostics-map-requires
+    (λ c. search needs)
+    (λ c κs. search needs)
     containing-requires-4
-    enum-told-5
-    maintenance-map-requires
+    (λ c. search needs)
+    (λ c κs. search needs)
     containing-requires-5
-    enum-told-6
+    (λ c. search needs)
     returns
     returns-2
     returns-3

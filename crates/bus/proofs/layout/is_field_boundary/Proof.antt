@@ -24,18 +24,6 @@ unfolding starts
 same o (some x) = refl
 same o none = refl
 
-field-containing-requires : tie.Need-field-containing-requires
-field-containing-requires c κs = search needs
-
-enum-known-field : tie.Need-enum-known-field
-enum-known-field c = search needs
-
-cast-result : tie.Need-cast-result
-cast-result c = search needs
-
-enum-told : tie.Need-enum-told
-enum-told c = search needs
-
 returns : tie.Need-returns
 unfolding starts
 returns c =
@@ -55,4 +43,4 @@ returns-2 c =
 pub is-field-boundary-spec : {M : Type 1} → statement M
 is-field-boundary-spec =
     tie.close
-    (tie.spec field-containing-requires enum-known-field cast-result enum-told returns returns-2)
+    (tie.spec (λ c κs. search needs) (λ c. search needs) (λ c. search needs) (λ c. search needs) returns returns-2)

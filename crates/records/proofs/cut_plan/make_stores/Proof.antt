@@ -26,23 +26,8 @@ loop-holds c = (refl, omega arith, refl)
 byte : (c : tie.After-shared-slice-known Inv-loop μ-loop) → (let l = c .before .before in getD (l .before .args .offsets .now) (l .loop .i) 0 < 256)
 byte c = omega (arith, c .shared-slice-known .given (c .before .before .loop .i))
 
-shared-slice-read-offset : tie.Need-shared-slice-read-offset Inv-loop μ-loop
-shared-slice-read-offset c = omega arith
-
 cast-offset : tie.Need-cast-offset Inv-loop μ-loop
 cast-offset c = omega (arith, byte c)
-
-shared-slice-read-value : tie.Need-shared-slice-read-value Inv-loop μ-loop
-shared-slice-read-value c = omega arith
-
-slice-write-bank : tie.Need-slice-write-bank Inv-loop μ-loop
-slice-write-bank c = omega arith
-
-add-i : tie.Need-add-i Inv-loop μ-loop
-add-i c = omega arith
-
-loop-less : tie.Need-loop-less Inv-loop μ-loop
-loop-less c = omega arith
 
 loop-again : tie.Need-loop-again Inv-loop μ-loop
 loop-again c =
@@ -71,12 +56,12 @@ make-stores-spec =
     Inv-loop
     μ-loop
     loop-holds
-    shared-slice-read-offset
+    (λ c. omega arith)
     cast-offset
-    shared-slice-read-value
-    slice-write-bank
-    add-i
-    loop-less
+    (λ c. omega arith)
+    (λ c. omega arith)
+    (λ c. omega arith)
+    (λ c. omega arith)
     loop-again
     same-length
     returns)

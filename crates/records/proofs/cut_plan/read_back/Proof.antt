@@ -6,38 +6,11 @@ use Rattle.records.proofs.CutRuns.{start-refused, start-accepted, same-
 use Rattle.records.proofs.cut_plan.read_back.Statement.{statement}
 use Rattle.records.proofs.cut_plan.read_back.Tie as tie
 
-start-requires : tie.Need-start-requires
-start-requires c κs = search needs
-
-enum-known-refusal : tie.Need-enum-known-refusal
-enum-known-refusal c = search needs
-
-enum-known-out : tie.Need-enum-known-out
-enum-known-out c = search needs
-
-from-header-requires : tie.Need-from-header-requires
-from-header-requires c κs = search needs
-
-store-requires : tie.Need-store-requires
-store-requires c κs = search needs
-
-enum-known-refusal-2 : tie.Need-enum-known-refusal-2
-enum-known-refusal-2 c = search needs
-
-enum-told : tie.Need-enum-told
-enum-told c = search needs
-
-run-requires : tie.Need-run-requires
-run-requires c κs = search needs
-
 returns : tie.Need-returns
 returns c =
     let s = c .before .before .before in
     let a = s .before .before .before .before .before .before .before .args in
     run-refused (a .numbers) (a .text-field) (a .text .now) (a .bank .now) (a .cut) (a .buffer .now) (callsIn (a .calls .now) (a .chunks .now)) (a .answers .now) (start-refused (a .numbers) (a .text-field) (a .text .now) (a .bank .now) (s .start .ensures) (c .before .refusal .given .1))
-
-same-length : tie.Need-same-length
-same-length c = search needs
 
 returns-2 : tie.Need-returns-2
 returns-2 c =
@@ -48,15 +21,6 @@ returns-2 c =
     let a = s .before .before .before .before .before .before .before .args in
     let started = start-accepted (a .numbers) (a .text-field) (a .text .now) (a .bank .now) (s .start .ensures) (o .out .given .1) in
     plan-refuses (a .numbers) (a .text-field) (a .text .now) (a .bank .now) (a .cut) (a .buffer .now) (callsIn (a .calls .now) (a .chunks .now)) (a .answers .now) started (same-plan (a .numbers) (a .text-field) (a .text .now) (a .bank .now) (h .from-header .ensures)) (m .store .ensures .0) (m .store .ensures .1) (c .before .refusal2 .given .1)
-
-same-length-2 : tie.Need-same-length-2
-same-length-2 c = search needs
-
-same-length-3 : tie.Need-same-length-3
-same-length-3 c = search needs
-
-same-length-4 : tie.Need-same-length-4
-same-length-4 c = search needs
 
 returns-3 : tie.Need-returns-3
 returns-3 c =
@@ -74,18 +38,18 @@ pub read-back-spec : {M : Type 1} → statement M
 read-back-spec =
     tie.close
     (tie.spec
-    start-requires
-    enum-known-refusal
-    enum-known-out
-    from-header-requires
-    store-requires
-    enum-known-refusal-2
-    enum-told
-    run-requires
+    (λ c κs. search needs)
+    (λ c. search needs)
+    (λ c. search needs)
+    (λ c κs. search needs)
+    (λ c κs. search needs)
+    (λ c. search needs)
+    (λ c. search needs)
+    (λ c κs. search needs)
     returns
-    same-length
+    (λ c. search needs)
     returns-2
-    same-length-2
-    same-length-3
-    same-length-4
+    (λ c. search needs)
+    (λ c. search needs)
+    (λ c. search needs)
     returns-3)

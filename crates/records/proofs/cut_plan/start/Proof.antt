@@ -11,14 +11,5 @@ returns : tie.Need-returns
 unfolding firstOf
 returns c = rw (lt-ltb 256 (c .before .args .len) (omega arith))
 
-cast-starting : tie.Need-cast-starting
-cast-starting c = search needs
-
-starting-requires : tie.Need-starting-requires
-starting-requires c κs = search needs
-
-returns-2 : tie.Need-returns-2
-returns-2 c = search needs
-
 pub start-spec : {M : Type 1} → statement M
-start-spec = tie.close (tie.spec returns cast-starting starting-requires returns-2)
+start-spec = tie.close (tie.spec returns (λ c. search needs) (λ c κs. search needs) (λ c. search needs))

@@ -29,21 +29,6 @@ offsets-made c = omega (arith, made c, offsets-fit (accepted (c .before .before)
 values-made : (c : tie.Joined1) → c .if1 .made ≤ length (c .before .before .before .before .before .before .stores .last .1 .1 .1 .0)
 values-made c = omega (arith, made c, values-fit (accepted (c .before .before)))
 
-slice-aggregate-stores : tie.Need-slice-aggregate-stores
-slice-aggregate-stores c = search needs
-
-slice-aggregate-stores-2 : tie.Need-slice-aggregate-stores-2
-slice-aggregate-stores-2 c = search needs
-
-stores-requires : tie.Need-stores-requires
-stores-requires c κs = search needs
-
-enum-known-refusal : tie.Need-enum-known-refusal
-enum-known-refusal c = search needs
-
-enum-known-count : tie.Need-enum-known-count
-enum-known-count c = search needs
-
 array-share-prefix-offsets : tie.Need-array-share-prefix-offsets
 array-share-prefix-offsets c = offsets-made c
 
@@ -69,9 +54,6 @@ returns c =
     let e = told-refused (a .plan) (a .text .now) _ _ (lit≤ tt) (lit≤ tt) (s .stores .ensures .0) (c .before .refusal .given .1) in
     (rw e, rw e)
 
-same-length : tie.Need-same-length
-same-length c = search needs
-
 returns-2 : tie.Need-returns-2
 returns-2 c =
     let m = c .before .before in
@@ -85,16 +67,16 @@ pub store-spec : {M : Type 1} → statement M
 store-spec =
     tie.close
     (tie.spec
-    slice-aggregate-stores
-    slice-aggregate-stores-2
-    stores-requires
-    enum-known-refusal
-    enum-known-count
+    (λ c. search needs)
+    (λ c. search needs)
+    (λ c κs. search needs)
+    (λ c. search needs)
+    (λ c. search needs)
     array-share-prefix-offsets
     slice-aggregate-make-stores
     array-share-prefix-values
     slice-aggregate-make-stores-2
     make-stores-requires
     returns
-    same-length
+    (λ c. search needs)
     returns-2)

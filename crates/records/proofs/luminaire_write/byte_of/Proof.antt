@@ -14,21 +14,6 @@ returns c =
     let h : a .value < 2 ^ (8 * a .behind) = omega (arith, pow-mono {i = 32} {j = 8 * a .behind} (omega arith)) in
     rw (div-eq-of-lt h)
 
-mul-result : tie.Need-mul-result
-mul-result c = search needs
-
-cast-result : tie.Need-cast-result
-cast-result c = search needs
-
-shr-result : tie.Need-shr-result
-shr-result c = search needs
-
-cast-result-2 : tie.Need-cast-result-2
-cast-result-2 c = search needs
-
-returns-2 : tie.Need-returns-2
-returns-2 c = search needs
-
 pub byte-of-spec : {M : Type 1} → statement M
 byte-of-spec =
-    tie.close (tie.spec returns mul-result cast-result shr-result cast-result-2 returns-2)
+    tie.close (tie.spec returns (λ c. search needs) (λ c. search needs) (λ c. search needs) (λ c. search needs) (λ c. search needs))

@@ -13,35 +13,14 @@ use Rattle.records.proofs.Stages.{for-number}
 use Rattle.records.proofs.luminaire_write.field_write.Statement.{statement}
 use Rattle.records.proofs.luminaire_write.field_write.Tie as tie
 
-enum-told : tie.Need-enum-told
-enum-told c = search needs
-
-enum-told-2 : tie.Need-enum-told-2
-enum-told-2 c = search needs
-
-number-write-requires : tie.Need-number-write-requires
-number-write-requires c κs = search needs
-
-enum-told-3 : tie.Need-enum-told-3
-enum-told-3 c = search needs
-
-is-for-requires : tie.Need-is-for-requires
-is-for-requires c κs = search needs
-
 returns : tie.Need-returns
 returns c =
     let told = c .before .before .enum-told3 .given .1 in
     let no = sym (c .before .is-for .ensures) ∙ not-true _ (c .if1 .taken) in
     (rw (told, no), rw (told, no))
 
-text-write-requires : tie.Need-text-write-requires
-text-write-requires c κs = search needs
-
 returns-2 : tie.Need-returns-2
 returns-2 c = (rw (c .enum-told .given .1), rw (c .enum-told .given .1))
-
-same-length : tie.Need-same-length
-same-length c = search needs
 
 returns-3 : tie.Need-returns-3
 returns-3 c =
@@ -49,9 +28,6 @@ returns-3 c =
     let a = c .before .before .before .before .before .before .before .before .args in
     let number = sym (for-number (a .numbers) (a .text-field) (a .text .now) (a .index) (a .field) (a .field .kind) (c .before .before .before .before .enum-told2 .given .1)) in
     (w .ensures .0 ∙ ap (optionFieldWrite (a .index)) number, w .ensures .1 ∙ ap (λ (o : Option (List ℕ)). sets (a .bytes .now) 0 (bytesIn o)) number)
-
-same-length-2 : tie.Need-same-length-2
-same-length-2 c = search needs
 
 returns-4 : tie.Need-returns-4
 returns-4 c =
@@ -64,15 +40,15 @@ pub field-write-spec : {M : Type 1} → statement M
 field-write-spec =
     tie.close
     (tie.spec
-    enum-told
-    enum-told-2
-    number-write-requires
-    enum-told-3
-    is-for-requires
+    (λ c. search needs)
+    (λ c. search needs)
+    (λ c κs. search needs)
+    (λ c. search needs)
+    (λ c κs. search needs)
     returns
-    text-write-requires
+    (λ c κs. search needs)
     returns-2
-    same-length
+    (λ c. search needs)
     returns-3
-    same-length-2
+    (λ c. search needs)
     returns-4)

@@ -14,8 +14,5 @@ returns c = sym (take-all 1 (c .before .args .bytes .now) (omega arith))
 slice-aggregate-result : tie.Need-slice-aggregate-result
 slice-aggregate-result c = sym (length-take-le 1 (c .before .before .args .bytes .now) (omega arith))
 
-returns-2 : tie.Need-returns-2
-returns-2 c = search needs
-
 pub head-spec : {M : Type 1} → statement M
-head-spec = tie.close (tie.spec returns slice-aggregate-result returns-2)
+head-spec = tie.close (tie.spec returns slice-aggregate-result (λ c. search needs))

@@ -4,17 +4,8 @@ use borrow.Author.Needs.{needs}
 use Rattle.records.proofs.luminaire_write.is_for.Statement.{statement}
 use Rattle.records.proofs.luminaire_write.is_for.Tie as tie
 
-enum-known-text-field : tie.Need-enum-known-text-field
-enum-known-text-field c = search needs
-
-enum-told : tie.Need-enum-told
-enum-told c = search needs
-
 returns : tie.Need-returns
 returns c = rw (c .before .text-field .given .1)
 
-returns-2 : tie.Need-returns-2
-returns-2 c = search needs
-
 pub is-for-spec : {M : Type 1} → statement M
-is-for-spec = tie.close (tie.spec enum-known-text-field enum-told returns returns-2)
+is-for-spec = tie.close (tie.spec (λ c. search needs) (λ c. search needs) returns (λ c. search needs))

@@ -42,21 +42,6 @@ all-laid c =
     (ap (λ (b : List ℕ). writeStores (written (a .index) (a .field) b)) (laid w) ∙ sym (stores-of-write (a .numbers) (a .text-field) (a .text .now) (a .index) (a .field) (told w .is)))
     (record { count = e .0; offsets = e .1 .0; values = e .1 .1 })
 
-slice-aggregate-field-write : tie.Need-slice-aggregate-field-write
-slice-aggregate-field-write c = search needs
-
-field-write-requires : tie.Need-field-write-requires
-field-write-requires c κs = search needs
-
-enum-known-write : tie.Need-enum-known-write
-enum-known-write c = search needs
-
-cast-len : tie.Need-cast-len
-cast-len c = search needs
-
-array-share-prefix-bytes : tie.Need-array-share-prefix-bytes
-array-share-prefix-bytes c = search needs
-
 slice-aggregate-lay-write : tie.Need-slice-aggregate-lay-write
 slice-aggregate-lay-write c =
     let w = c .before .before .before in
@@ -67,9 +52,6 @@ lay-write-requires c κs =
     let w = c .before .before .before .before .before in
     let s = w .before .before .before .before .before .before .before .before in
     (s .pre .0, (omega (arith, ap length (laid w), short w), s .pre .1))
-
-enum-told : tie.Need-enum-told
-enum-told c = search needs
 
 same-length : tie.Need-same-length
 same-length c = offsets-kept (all-laid c)
@@ -94,14 +76,14 @@ pub lay-field-spec : {M : Type 1} → statement M
 lay-field-spec =
     tie.close
     (tie.spec
-    slice-aggregate-field-write
-    field-write-requires
-    enum-known-write
-    cast-len
-    array-share-prefix-bytes
+    (λ c. search needs)
+    (λ c κs. search needs)
+    (λ c. search needs)
+    (λ c. search needs)
+    (λ c. search needs)
     slice-aggregate-lay-write
     lay-write-requires
-    enum-told
+    (λ c. search needs)
     same-length
     same-length-2
     returns

@@ -33,37 +33,10 @@ short c =
 laid : (c : tie.After-write) → take (c .write .given .0 .0 .len) (c .before .before .before .field-write .last .1 .1 .1 .1 .1 .0) ≡ told c .bytes
 laid c = front-told (told c) (replicate 256 0) (c .before .before .before .field-write .ensures .1) (short c)
 
-slice-aggregate-field-write : tie.Need-slice-aggregate-field-write
-slice-aggregate-field-write c = search needs
-
-field-write-requires : tie.Need-field-write-requires
-field-write-requires c κs = search needs
-
-enum-known-write : tie.Need-enum-known-write
-enum-known-write c = search needs
-
-cast-len : tie.Need-cast-len
-cast-len c = search needs
-
-cast-put : tie.Need-cast-put
-cast-put c = search needs
-
-put-requires : tie.Need-put-requires
-put-requires c κs = search needs
-
-put-requires-2 : tie.Need-put-requires-2
-put-requires-2 c κs = search needs
-
-array-share-prefix-own : tie.Need-array-share-prefix-own
-array-share-prefix-own c = search needs
-
 slice-aggregate-put-all : tie.Need-slice-aggregate-put-all
 slice-aggregate-put-all c =
     let w = c .before .before .before .before .before .before .before .before .before .before .before .before in
     told w .counts ∙ sym (ap length (laid w))
-
-put-all-requires : tie.Need-put-all-requires
-put-all-requires c κs = search needs
 
 add-t27 : tie.Need-add-t27
 add-t27 c =
@@ -75,18 +48,6 @@ add-t28 c =
     let w = c .before .before .before .before .before .before .before .before .before .before .before .before .before .before .before .before .before in
     let s = w .before .before .before .before .before .before .before .before .before in
     omega (arith, s .pre .1 .1 .1, told w .counts, short w)
-
-enum-told : tie.Need-enum-told
-enum-told c = search needs
-
-same-length : tie.Need-same-length
-same-length c = search needs
-
-same-length-2 : tie.Need-same-length-2
-same-length-2 c = search needs
-
-same-length-3 : tie.Need-same-length-3
-same-length-3 c = search needs
 
 returns : tie.Need-returns
 returns c =
@@ -104,21 +65,21 @@ pub lay-planned-spec : {M : Type 1} → statement M
 lay-planned-spec =
     tie.close
     (tie.spec
-    slice-aggregate-field-write
-    field-write-requires
-    enum-known-write
-    cast-len
-    cast-put
-    put-requires
-    put-requires-2
-    array-share-prefix-own
+    (λ c. search needs)
+    (λ c κs. search needs)
+    (λ c. search needs)
+    (λ c. search needs)
+    (λ c. search needs)
+    (λ c κs. search needs)
+    (λ c κs. search needs)
+    (λ c. search needs)
     slice-aggregate-put-all
-    put-all-requires
+    (λ c κs. search needs)
     add-t27
     add-t28
-    enum-told
-    same-length
-    same-length-2
-    same-length-3
+    (λ c. search needs)
+    (λ c. search needs)
+    (λ c. search needs)
+    (λ c. search needs)
     returns
     returns-2)

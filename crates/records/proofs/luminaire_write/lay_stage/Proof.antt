@@ -23,33 +23,6 @@ abbrev μ-loop : tie.MeasureT-loop
 loop-holds : tie.Need-loop-holds Inv-loop μ-loop
 loop-holds c = (omega arith, c .before .before .before .pre .0, c .before .before .before .pre .1, refl, refl)
 
-add-put : tie.Need-add-put Inv-loop μ-loop
-add-put c = omega arith
-
-cast-put : tie.Need-cast-put Inv-loop μ-loop
-cast-put c = omega arith
-
-add-put-2 : tie.Need-add-put-2 Inv-loop μ-loop
-add-put-2 c = omega arith
-
-put-requires : tie.Need-put-requires Inv-loop μ-loop
-put-requires c κs = search needs
-
-add-put-3 : tie.Need-add-put-3 Inv-loop μ-loop
-add-put-3 c = omega arith
-
-shared-slice-read-put : tie.Need-shared-slice-read-put Inv-loop μ-loop
-shared-slice-read-put c = omega arith
-
-put-requires-2 : tie.Need-put-requires-2 Inv-loop μ-loop
-put-requires-2 c κs = search needs
-
-add-i : tie.Need-add-i Inv-loop μ-loop
-add-i c = omega arith
-
-loop-less : tie.Need-loop-less Inv-loop μ-loop
-loop-less c = omega arith
-
 loop-again : tie.Need-loop-again Inv-loop μ-loop
 loop-again c =
     let l = c .before .before .before .before .before .before .before .before .before .before in
@@ -67,9 +40,6 @@ loop-again c =
           ∙ ap (λ (r : List ℕ). set r (a .count + l .loop .i) (getD (a .bytes .now) (l .loop .i) 0)) (s .4)
           ∙ sets-next (a .values .now) (a .count) (l .loop .i) (a .bytes .now) 0 (omega arith),
     )
-
-add-result : tie.Need-add-result Inv-loop μ-loop
-add-result c = omega arith
 
 same-length : tie.Need-same-length Inv-loop μ-loop
 same-length c =
@@ -103,17 +73,17 @@ lay-stage-spec =
     Inv-loop
     μ-loop
     loop-holds
-    add-put
-    cast-put
-    add-put-2
-    put-requires
-    add-put-3
-    shared-slice-read-put
-    put-requires-2
-    add-i
-    loop-less
+    (λ c. omega arith)
+    (λ c. omega arith)
+    (λ c. omega arith)
+    (λ c κs. search needs)
+    (λ c. omega arith)
+    (λ c. omega arith)
+    (λ c κs. search needs)
+    (λ c. omega arith)
+    (λ c. omega arith)
     loop-again
-    add-result
+    (λ c. omega arith)
     same-length
     same-length-2
     returns)

@@ -21,28 +21,13 @@ Inv-loop numbers text-field text offsets₀ values₀ table count₀ index₀ of
 abbrev μ-loop : tie.MeasureT-loop
 μ-loop numbers text-field text offsets₀ values₀ table count₀ index₀ offsets values count index = 18 - index
 
-luminaire-fields-requires : tie.Need-luminaire-fields-requires Inv-loop μ-loop
-luminaire-fields-requires c κs = search needs
-
 loop-holds : tie.Need-loop-holds Inv-loop μ-loop
 loop-holds c = (omega arith, c .luminaire-fields .ensures, omega arith, none-laid)
-
-mul-lay-field : tie.Need-mul-lay-field Inv-loop μ-loop
-mul-lay-field c = search needs
-
-array-copy-out-lay-field : tie.Need-array-copy-out-lay-field Inv-loop μ-loop
-array-copy-out-lay-field c = search needs
 
 lay-field-requires : tie.Need-lay-field-requires Inv-loop μ-loop
 lay-field-requires c κs =
     let l = c .before .before .before .before in
     (table-within _ (l .loop .inv .1) (l .loop .index) _ (omega arith), omega (arith, l .loop .inv .2))
-
-add-index : tie.Need-add-index Inv-loop μ-loop
-add-index c = omega arith
-
-loop-less : tie.Need-loop-less Inv-loop μ-loop
-loop-less c = omega arith
 
 loop-again : tie.Need-loop-again Inv-loop μ-loop
 loop-again c =
@@ -73,13 +58,13 @@ lay-stores-spec =
     (tie.spec
     Inv-loop
     μ-loop
-    luminaire-fields-requires
+    (λ c κs. search needs)
     loop-holds
-    mul-lay-field
-    array-copy-out-lay-field
+    (λ c. search needs)
+    (λ c. search needs)
     lay-field-requires
-    add-index
-    loop-less
+    (λ c. omega arith)
+    (λ c. omega arith)
     loop-again
     same-length
     same-length-2

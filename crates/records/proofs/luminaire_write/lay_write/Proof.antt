@@ -31,15 +31,6 @@ loop-holds c =
 stage-of-requires : tie.Need-stage-of-requires Inv-loop μ-loop
 stage-of-requires c κs = c .before .loop .inv .1
 
-enum-known-stage : tie.Need-enum-known-stage Inv-loop μ-loop
-enum-known-stage c = search needs
-
-slice-aggregate-bytes : tie.Need-slice-aggregate-bytes Inv-loop μ-loop
-slice-aggregate-bytes c = search needs
-
-bytes-requires : tie.Need-bytes-requires Inv-loop μ-loop
-bytes-requires c κs = search needs
-
 lay-stage-requires : tie.Need-lay-stage-requires Inv-loop μ-loop
 lay-stage-requires c κs =
     let g = c .before .before .before .before .before in
@@ -47,15 +38,6 @@ lay-stage-requires c κs =
     let a = l .before .before .before .before .args in
     let fits = stage-fits (a .index) (a .field) (a .bytes .now) (l .loop .inv .2) (l .loop .place) (l .loop .inv .1) (told-stage _ (g .before .before .stage-of .ensures) (g .stage .given .1)) in
     (rw (c .before .before .bytes .ensures) fits, omega (arith, l .loop .inv .3))
-
-enum-told : tie.Need-enum-told Inv-loop μ-loop
-enum-told c = search needs
-
-add-place : tie.Need-add-place Inv-loop μ-loop
-add-place c = omega arith
-
-loop-less : tie.Need-loop-less Inv-loop μ-loop
-loop-less c = omega arith
 
 loop-again : tie.Need-loop-again Inv-loop μ-loop
 loop-again c =
@@ -95,13 +77,13 @@ lay-write-spec =
     μ-loop
     loop-holds
     stage-of-requires
-    enum-known-stage
-    slice-aggregate-bytes
-    bytes-requires
+    (λ c. search needs)
+    (λ c. search needs)
+    (λ c κs. search needs)
     lay-stage-requires
-    enum-told
-    add-place
-    loop-less
+    (λ c. search needs)
+    (λ c. omega arith)
+    (λ c. omega arith)
     loop-again
     same-length
     same-length-2

@@ -8,24 +8,12 @@ use Rattle.records.proofs.Refusals.{alone-passed, alone-refused, refuse
 use Rattle.records.proofs.luminaire_write.number_refusal.Statement.{statement}
 use Rattle.records.proofs.luminaire_write.number_refusal.Tie as tie
 
-check-writable-requires : tie.Need-check-writable-requires
-check-writable-requires c κs = search needs
-
-enum-known-format : tie.Need-enum-known-format
-enum-known-format c = search needs
-
-accepts-number-requires : tie.Need-accepts-number-requires
-accepts-number-requires c κs = search needs
-
 returns : tie.Need-returns
 returns c =
     let w = c .before .before .before .before .before in
     let a = w .before .args in
     let ok = sym (w .check-writable .ensures) ∙ c .before .before .before .format .given .1 in
     sym (ap optionRefusal (passed-behind (a .layout) (a .field) _ ok ∙ alone-passed NumberNotAccepted (rejects-is (a .layout) (a .field) (a .value) ok (sym (c .before .accepts-number .ensures) ∙ c .if1 .taken))))
-
-enum-known-refusal : tie.Need-enum-known-refusal
-enum-known-refusal c = search needs
 
 returns-2 : tie.Need-returns-2
 returns-2 c =
@@ -44,10 +32,10 @@ pub number-refusal-spec : {M : Type 1} → statement M
 number-refusal-spec =
     tie.close
     (tie.spec
-    check-writable-requires
-    enum-known-format
-    accepts-number-requires
+    (λ c κs. search needs)
+    (λ c. search needs)
+    (λ c κs. search needs)
     returns
-    enum-known-refusal
+    (λ c. search needs)
     returns-2
     returns-3)

@@ -22,15 +22,6 @@ Inv-loop index bytes₀ value len i₀ bytes i = (i ≤ len) × (bytes ≡ sets 
 abbrev μ-loop : tie.MeasureT-loop
 μ-loop index bytes₀ value len i₀ bytes i = len - i
 
-of-field-requires : tie.Need-of-field-requires Inv-loop μ-loop
-of-field-requires c κs = search needs
-
-enum-known-value : tie.Need-enum-known-value Inv-loop μ-loop
-enum-known-value c = search needs
-
-enum-told : tie.Need-enum-told Inv-loop μ-loop
-enum-told c = search needs
-
 returns : tie.Need-returns Inv-loop μ-loop
 returns c =
     let w = c .before .before in
@@ -40,27 +31,6 @@ returns c =
 
 loop-holds : tie.Need-loop-holds Inv-loop μ-loop
 loop-holds c = (omega arith, refl)
-
-cast-put : tie.Need-cast-put Inv-loop μ-loop
-cast-put c = omega arith
-
-sub-byte-of : tie.Need-sub-byte-of Inv-loop μ-loop
-sub-byte-of c = omega arith
-
-sub-byte-of-2 : tie.Need-sub-byte-of-2 Inv-loop μ-loop
-sub-byte-of-2 c = omega arith
-
-byte-of-requires : tie.Need-byte-of-requires Inv-loop μ-loop
-byte-of-requires c κs = search needs
-
-put-requires : tie.Need-put-requires Inv-loop μ-loop
-put-requires c κs = search needs
-
-add-i : tie.Need-add-i Inv-loop μ-loop
-add-i c = omega arith
-
-loop-less : tie.Need-loop-less Inv-loop μ-loop
-loop-less c = omega arith
 
 loop-again : tie.Need-loop-again Inv-loop μ-loop
 loop-again c =
@@ -96,18 +66,18 @@ number-write-spec =
     (tie.spec
     Inv-loop
     μ-loop
-    of-field-requires
-    enum-known-value
-    enum-told
+    (λ c κs. search needs)
+    (λ c. search needs)
+    (λ c. search needs)
     returns
     loop-holds
-    cast-put
-    sub-byte-of
-    sub-byte-of-2
-    byte-of-requires
-    put-requires
-    add-i
-    loop-less
+    (λ c. omega arith)
+    (λ c. omega arith)
+    (λ c. omega arith)
+    (λ c κs. search needs)
+    (λ c κs. search needs)
+    (λ c. omega arith)
+    (λ c. omega arith)
     loop-again
     same-length
     returns-2)

@@ -20,29 +20,14 @@ Inv-loop numbers text-field text fields₀ lens₀ bytes₀ table counts₀ inde
 abbrev μ-loop : tie.MeasureT-loop
 μ-loop numbers text-field text fields₀ lens₀ bytes₀ table counts₀ index₀ fields lens bytes counts index = 18 - index
 
-luminaire-fields-requires : tie.Need-luminaire-fields-requires Inv-loop μ-loop
-luminaire-fields-requires c κs = search needs
-
 loop-holds : tie.Need-loop-holds Inv-loop μ-loop
 loop-holds c = (omega arith, c .luminaire-fields .ensures, omega arith, omega arith, none-planned)
-
-mul-lay-planned : tie.Need-mul-lay-planned Inv-loop μ-loop
-mul-lay-planned c = search needs
-
-array-copy-out-lay-planned : tie.Need-array-copy-out-lay-planned Inv-loop μ-loop
-array-copy-out-lay-planned c = search needs
 
 lay-planned-requires : tie.Need-lay-planned-requires Inv-loop μ-loop
 lay-planned-requires c κs =
     let l = c .before .before .before .before .before in
     let s = l .loop .inv in
     (omega arith, (table-within _ (s .1) (l .loop .index) _ (omega arith), (omega (arith, s .2), omega (arith, s .3))))
-
-add-index : tie.Need-add-index Inv-loop μ-loop
-add-index c = omega arith
-
-loop-less : tie.Need-loop-less Inv-loop μ-loop
-loop-less c = omega arith
 
 loop-again : tie.Need-loop-again Inv-loop μ-loop
 loop-again c =
@@ -77,13 +62,13 @@ planned-writes-spec =
     (tie.spec
     Inv-loop
     μ-loop
-    luminaire-fields-requires
+    (λ c κs. search needs)
     loop-holds
-    mul-lay-planned
-    array-copy-out-lay-planned
+    (λ c. search needs)
+    (λ c. search needs)
     lay-planned-requires
-    add-index
-    loop-less
+    (λ c. omega arith)
+    (λ c. omega arith)
     loop-again
     same-length
     same-length-2

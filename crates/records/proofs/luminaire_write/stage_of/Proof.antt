@@ -16,17 +16,11 @@ one c = sym (c .before .is-staged .ensures) ∙ not-true _ (c .if1 .taken)
 three : (c : tie.Else1) → (let a = c .before .before .args in isStaged (a .field .kind) (a .len) ≡ true)
 three c = sym (c .before .is-staged .ensures) ∙ not-false _ (c .if1 .left)
 
-is-staged-requires : tie.Need-is-staged-requires
-is-staged-requires c κs = search needs
-
 returns : tie.Need-returns
 returns c = rw (c .match .keys1, one (c .before))
 
 returns-2 : tie.Need-returns-2
 returns-2 c = rw (one (c .before)) (ap optionWriteStage (behind-one _ _ (c .match .rest .1)))
-
-add-t14 : tie.Need-add-t14
-add-t14 c = search needs
 
 returns-3 : tie.Need-returns-3
 returns-3 c = rw (c .match2 .keys1, three (c .before))
@@ -45,4 +39,4 @@ returns-6 c =
 pub stage-of-spec : {M : Type 1} → statement M
 stage-of-spec =
     tie.close
-    (tie.spec is-staged-requires returns returns-2 add-t14 returns-3 returns-4 returns-5 returns-6)
+    (tie.spec (λ c κs. search needs) returns returns-2 (λ c. search needs) returns-3 returns-4 returns-5 returns-6)

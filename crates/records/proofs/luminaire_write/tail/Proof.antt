@@ -16,19 +16,10 @@ returns c =
     let b = c .before .args .bytes .now in
     sym (drop-all b (omega arith))
 
-sub-result : tie.Need-sub-result
-sub-result c = search needs
-
-part-result-start : tie.Need-part-result-start
-part-result-start c = search needs
-
-part-result-end : tie.Need-part-result-end
-part-result-end c = search needs
-
 returns-2 : tie.Need-returns-2
 returns-2 c =
     let b = c .before .before .args .bytes .now in
     take-all (length b - 1) (drop 1 b) (rw length-drop (omega arith))
 
 pub tail-spec : {M : Type 1} → statement M
-tail-spec = tie.close (tie.spec returns sub-result part-result-start part-result-end returns-2)
+tail-spec = tie.close (tie.spec returns (λ c. search needs) (λ c. search needs) (λ c. search needs) returns-2)

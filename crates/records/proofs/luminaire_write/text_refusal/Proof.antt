@@ -9,23 +9,11 @@ use Rattle.records.proofs.Refusals.{alone-passed, alone-refused, refuse
 use Rattle.records.proofs.luminaire_write.text_refusal.Statement.{statement}
 use Rattle.records.proofs.luminaire_write.text_refusal.Tie as tie
 
-check-writable-requires : tie.Need-check-writable-requires
-check-writable-requires c κs = search needs
-
-enum-told : tie.Need-enum-told
-enum-told c = search needs
-
-accepts-text-requires : tie.Need-accepts-text-requires
-accepts-text-requires c κs = search needs
-
 returns : tie.Need-returns
 returns c =
     let w = c .before .before .before .before in
     let a = w .before .before .args in
     sym (ap optionRefusal (passed-behind (a .layout) (a .field) _ (sym (w .check-writable .ensures) ∙ c .before .before .enum-told .given .1) ∙ alone-passed TextNotAccepted (ap not (sym (c .before .accepts-text .ensures) ∙ c .if1 .taken))))
-
-enum-known-refusal : tie.Need-enum-known-refusal
-enum-known-refusal c = search needs
 
 returns-2 : tie.Need-returns-2
 returns-2 c =
@@ -43,10 +31,10 @@ pub text-refusal-spec : {M : Type 1} → statement M
 text-refusal-spec =
     tie.close
     (tie.spec
-    check-writable-requires
-    enum-told
-    accepts-text-requires
+    (λ c κs. search needs)
+    (λ c. search needs)
+    (λ c κs. search needs)
     returns
-    enum-known-refusal
+    (λ c. search needs)
     returns-2
     returns-3)

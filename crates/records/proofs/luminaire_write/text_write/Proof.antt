@@ -12,43 +12,16 @@ use Rattle.records.proofs.Stages.{cut-text, short-text}
 use Rattle.records.proofs.luminaire_write.text_write.Statement.{statement}
 use Rattle.records.proofs.luminaire_write.text_write.Tie as tie
 
-cast-if1 : tie.Need-cast-if1
-cast-if1 c = search needs
-
-cast-put-all : tie.Need-cast-put-all
-cast-put-all c = search needs
-
 slice-aggregate-put-all : tie.Need-slice-aggregate-put-all
 slice-aggregate-put-all c =
     let a = c .before .before .before .before .before .args in
     sym (length-take-le (a .field .len) (a .text .now) (omega arith))
-
-put-all-requires : tie.Need-put-all-requires
-put-all-requires c κs = search needs
-
-same-length : tie.Need-same-length
-same-length c = search needs
 
 returns : tie.Need-returns
 returns c =
     let a = c .before .before .before .before .before .before .before .before .args in
     let cut = cut-text (a .field) (a .text .now) (omega arith) in
     (rw (cut, length-take-le (a .field .len) (a .text .now) (omega arith)), c .before .before .put-all .ensures ∙ ap (λ (r : List ℕ). sets (a .bytes .now) 0 r) (sym cut))
-
-put-all-requires-2 : tie.Need-put-all-requires-2
-put-all-requires-2 c κs = search needs
-
-put-requires : tie.Need-put-requires
-put-requires c κs = search needs
-
-cast-t20 : tie.Need-cast-t20
-cast-t20 c = search needs
-
-add-t21 : tie.Need-add-t21
-add-t21 c = search needs
-
-same-length-2 : tie.Need-same-length-2
-same-length-2 c = search needs
 
 returns-2 : tie.Need-returns-2
 returns-2 c =
@@ -60,15 +33,15 @@ pub text-write-spec : {M : Type 1} → statement M
 text-write-spec =
     tie.close
     (tie.spec
-    cast-if1
-    cast-put-all
+    (λ c. search needs)
+    (λ c. search needs)
     slice-aggregate-put-all
-    put-all-requires
-    same-length
+    (λ c κs. search needs)
+    (λ c. search needs)
     returns
-    put-all-requires-2
-    put-requires
-    cast-t20
-    add-t21
-    same-length-2
+    (λ c κs. search needs)
+    (λ c κs. search needs)
+    (λ c. search needs)
+    (λ c. search needs)
+    (λ c. search needs)
     returns-2)

@@ -6,15 +6,9 @@ use Rattle.bank.specs.Fields.{luminaireFields}
 use Rattle.records.proofs.memory_bank_parser.blank_luminaire.Statement.{statement}
 use Rattle.records.proofs.memory_bank_parser.blank_luminaire.Tie as tie
 
-absent-requires : tie.Need-absent-requires
-absent-requires c κs = search needs
-
-absent-requires-2 : tie.Need-absent-requires-2
-absent-requires-2 c κs = search needs
-
 returns : tie.Need-returns
 unfolding luminaireFields bind
 returns c = rw (c .before .absent .ensures, c .absent2 .ensures)
 
 pub blank-luminaire-spec : {M : Type 1} → statement M
-blank-luminaire-spec = tie.close (tie.spec absent-requires absent-requires-2 returns)
+blank-luminaire-spec = tie.close (tie.spec (λ c κs. search needs) (λ c κs. search needs) returns)

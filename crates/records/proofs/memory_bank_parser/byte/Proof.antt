@@ -14,16 +14,10 @@ returns c =
     let a = c .before .args in
     rw (before (a .start-offset) (a .bytes .now) (a .index) 1 (omega arith))
 
-sub-rel : tie.Need-sub-rel
-sub-rel c = search needs
-
 returns-2 : tie.Need-returns-2
 returns-2 c =
     let a = c .before .before .args in
     rw (behind (a .start-offset) (a .bytes .now) (a .index) 1 (omega arith) (omega arith))
-
-shared-slice-read-t8 : tie.Need-shared-slice-read-t8
-shared-slice-read-t8 c = search needs
 
 returns-3 : tie.Need-returns-3
 returns-3 c =
@@ -32,4 +26,4 @@ returns-3 c =
     (ap OptionU8.Some (sym (number-one (a .bytes .now) _ (omega arith))))
 
 pub byte-spec : {M : Type 1} → statement M
-byte-spec = tie.close (tie.spec returns sub-rel returns-2 shared-slice-read-t8 returns-3)
+byte-spec = tie.close (tie.spec returns (λ c. search needs) returns-2 (λ c. search needs) returns-3)

@@ -5,15 +5,6 @@ use borrow.Author.Needs.{needs}
 use Rattle.records.proofs.memory_bank_parser.classified.Statement.{statement}
 use Rattle.records.proofs.memory_bank_parser.classified.Tie as tie
 
-shows-back-requires : tie.Need-shows-back-requires
-shows-back-requires c κs = search needs
-
-luminaire-value-requires : tie.Need-luminaire-value-requires
-luminaire-value-requires c κs = search needs
-
-luminaire-value-requires-2 : tie.Need-luminaire-value-requires-2
-luminaire-value-requires-2 c κs = search needs
-
 returns : tie.Need-returns
 returns c = rw (sym (c .before .before .shows-back .ensures) ∙ c .before .if1 .taken) (c .luminaire-value .ensures)
 
@@ -24,8 +15,8 @@ pub classified-spec : {M : Type 1} → statement M
 classified-spec =
     tie.close
     (tie.spec
-    shows-back-requires
-    luminaire-value-requires
-    luminaire-value-requires-2
+    (λ c κs. search needs)
+    (λ c κs. search needs)
+    (λ c κs. search needs)
     returns
     returns-2)

@@ -30,23 +30,11 @@ next c =
 loop-holds : tie.Need-loop-holds Inv-loop μ-loop
 loop-holds c = begun _ _
 
-sub-push-next : tie.Need-sub-push-next Inv-loop μ-loop
-sub-push-next c = omega arith
-
-part-push-next-start : tie.Need-part-push-next-start Inv-loop μ-loop
-part-push-next-start c = omega arith
-
-part-push-next-end : tie.Need-part-push-next-end Inv-loop μ-loop
-part-push-next-end c = omega arith
-
 sub-push-next-2 : tie.Need-sub-push-next-2 Inv-loop μ-loop
 sub-push-next-2 c = omega (arith, same (c .before .before .loop .inv), c .before .before .loop .inv .room)
 
 part-push-next-start-2 : tie.Need-part-push-next-start-2 Inv-loop μ-loop
 part-push-next-start-2 c = omega (arith, same (c .before .before .loop .inv), c .before .before .loop .inv .room)
-
-part-push-next-end-2 : tie.Need-part-push-next-end-2 Inv-loop μ-loop
-part-push-next-end-2 c = omega arith
 
 push-next-requires : tie.Need-push-next-requires Inv-loop μ-loop
 push-next-requires c κs = rw (length-take, length-drop) (omega arith)
@@ -93,12 +81,12 @@ escape-into-spec =
     Inv-loop
     μ-loop
     loop-holds
-    sub-push-next
-    part-push-next-start
-    part-push-next-end
+    (λ c. omega arith)
+    (λ c. omega arith)
+    (λ c. omega arith)
     sub-push-next-2
     part-push-next-start-2
-    part-push-next-end-2
+    (λ c. omega arith)
     push-next-requires
     same-length
     returns

@@ -11,17 +11,11 @@ use Rattle.records.proofs.memory_bank_parser.escape_into_bounded.Tie as
 room : (c : tie.After-bytes) → c .bytes .result ≤ 64
 room c = rw (c .bytes .ensures) (at-most-64 (c .before .before .args .limit))
 
-bytes-requires : tie.Need-bytes-requires
-bytes-requires c κs = search needs
-
 array-borrow-prefix-bytes : tie.Need-array-borrow-prefix-bytes
 array-borrow-prefix-bytes c = room c
 
 slice-aggregate-escape-into : tie.Need-slice-aggregate-escape-into
 slice-aggregate-escape-into c = sym (length-take-le _ _ (room (c .before)))
-
-escape-into-requires : tie.Need-escape-into-requires
-escape-into-requires c κs = search needs
 
 returns : tie.Need-returns
 returns c =
@@ -33,8 +27,8 @@ pub escape-into-bounded-spec : {M : Type 1} → statement M
 escape-into-bounded-spec =
     tie.close
     (tie.spec
-    bytes-requires
+    (λ c κs. search needs)
     array-borrow-prefix-bytes
     slice-aggregate-escape-into
-    escape-into-requires
+    (λ c κs. search needs)
     returns)

@@ -6,30 +6,6 @@ use Rattle.records.proofs.Luminaire.{from-first, had-from}
 use Rattle.records.proofs.memory_bank_parser.fill_luminaire_text.Statement.{statement}
 use Rattle.records.proofs.memory_bank_parser.fill_luminaire_text.Tie as tie
 
-has-light-distribution-requires : tie.Need-has-light-distribution-requires
-has-light-distribution-requires c κs = search needs
-
-has-extended-block-requires : tie.Need-has-extended-block-requires
-has-extended-block-requires c κs = search needs
-
-text32-requires : tie.Need-text32-requires
-text32-requires c κs = search needs
-
-text-region-requires : tie.Need-text-region-requires
-text-region-requires c κs = search needs
-
-text32-requires-2 : tie.Need-text32-requires-2
-text32-requires-2 c κs = search needs
-
-text32-requires-3 : tie.Need-text32-requires-3
-text32-requires-3 c κs = search needs
-
-text32-requires-4 : tie.Need-text32-requires-4
-text32-requires-4 c κs = search needs
-
-text32-requires-5 : tie.Need-text32-requires-5
-text32-requires-5 c κs = search needs
-
 returns : tie.Need-returns
 unfolding luminaireFields
 returns c =
@@ -55,12 +31,12 @@ pub fill-luminaire-text-spec : {M : Type 1} → statement M
 fill-luminaire-text-spec =
     tie.close
     (tie.spec
-    has-light-distribution-requires
-    has-extended-block-requires
-    text32-requires
-    text-region-requires
-    text32-requires-2
-    text32-requires-3
-    text32-requires-4
-    text32-requires-5
+    (λ c κs. search needs)
+    (λ c κs. search needs)
+    (λ c κs. search needs)
+    (λ c κs. search needs)
+    (λ c κs. search needs)
+    (λ c κs. search needs)
+    (λ c κs. search needs)
+    (λ c κs. search needs)
     returns)

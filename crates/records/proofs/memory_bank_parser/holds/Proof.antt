@@ -16,12 +16,6 @@ returns-2 c =
     let a = c .before .before .args in
     rw (behind (a .start-offset) (a .bytes .now) (a .offset) (a .len) (omega arith) (omega arith))
 
-sub-if3 : tie.Need-sub-if3
-sub-if3 c = search needs
-
-sub-if3-2 : tie.Need-sub-if3-2
-sub-if3-2 c = search needs
-
 returns-3 : tie.Need-returns-3
 returns-3 c =
     let a = c .before .before .before .args in
@@ -33,4 +27,4 @@ returns-4 c =
     rw (whole (a .start-offset) (a .bytes .now) (a .offset) (a .len) (omega arith) (omega arith))
 
 pub holds-spec : {M : Type 1} → statement M
-holds-spec = tie.close (tie.spec returns returns-2 sub-if3 sub-if3-2 returns-3 returns-4)
+holds-spec = tie.close (tie.spec returns returns-2 (λ c. search needs) (λ c. search needs) returns-3 returns-4)

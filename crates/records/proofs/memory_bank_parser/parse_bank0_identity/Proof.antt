@@ -4,51 +4,6 @@ use borrow.Author.Needs.{needs}
 use Rattle.records.proofs.memory_bank_parser.parse_bank0_identity.Statement.{statement}
 use Rattle.records.proofs.memory_bank_parser.parse_bank0_identity.Tie as tie
 
-byte-requires : tie.Need-byte-requires
-byte-requires c κs = search needs
-
-cast-parse-be-u64 : tie.Need-cast-parse-be-u64
-cast-parse-be-u64 c = search needs
-
-parse-be-u64-requires : tie.Need-parse-be-u64-requires
-parse-be-u64-requires c κs = search needs
-
-byte-requires-2 : tie.Need-byte-requires-2
-byte-requires-2 c κs = search needs
-
-byte-requires-3 : tie.Need-byte-requires-3
-byte-requires-3 c κs = search needs
-
-cast-parse-be-u64-2 : tie.Need-cast-parse-be-u64-2
-cast-parse-be-u64-2 c = search needs
-
-parse-be-u64-requires-2 : tie.Need-parse-be-u64-requires-2
-parse-be-u64-requires-2 c κs = search needs
-
-byte-requires-4 : tie.Need-byte-requires-4
-byte-requires-4 c κs = search needs
-
-byte-requires-5 : tie.Need-byte-requires-5
-byte-requires-5 c κs = search needs
-
-byte-requires-6 : tie.Need-byte-requires-6
-byte-requires-6 c κs = search needs
-
-byte-requires-7 : tie.Need-byte-requires-7
-byte-requires-7 c κs = search needs
-
-byte-requires-8 : tie.Need-byte-requires-8
-byte-requires-8 c κs = search needs
-
-byte-requires-9 : tie.Need-byte-requires-9
-byte-requires-9 c κs = search needs
-
-byte-requires-10 : tie.Need-byte-requires-10
-byte-requires-10 c κs = search needs
-
-byte-requires-11 : tie.Need-byte-requires-11
-byte-requires-11 c κs = search needs
-
 returns : tie.Need-returns
 returns c =
     let logical-control-gear-units = c .before in
@@ -83,19 +38,19 @@ pub parse-bank0-identity-spec : {M : Type 1} → statement M
 parse-bank0-identity-spec =
     tie.close
     (tie.spec
-    byte-requires
-    cast-parse-be-u64
-    parse-be-u64-requires
-    byte-requires-2
-    byte-requires-3
-    cast-parse-be-u64-2
-    parse-be-u64-requires-2
-    byte-requires-4
-    byte-requires-5
-    byte-requires-6
-    byte-requires-7
-    byte-requires-8
-    byte-requires-9
-    byte-requires-10
-    byte-requires-11
+    (λ c κs. search needs)
+    (λ c. search needs)
+    (λ c κs. search needs)
+    (λ c κs. search needs)
+    (λ c κs. search needs)
+    (λ c. search needs)
+    (λ c κs. search needs)
+    (λ c κs. search needs)
+    (λ c κs. search needs)
+    (λ c κs. search needs)
+    (λ c κs. search needs)
+    (λ c κs. search needs)
+    (λ c κs. search needs)
+    (λ c κs. search needs)
+    (λ c κs. search needs)
     returns)

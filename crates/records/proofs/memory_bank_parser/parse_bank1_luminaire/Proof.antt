@@ -11,36 +11,6 @@ use Rattle.records.proofs.Luminaire.{told-id}
 use Rattle.records.proofs.memory_bank_parser.parse_bank1_luminaire.Statement.{statement}
 use Rattle.records.proofs.memory_bank_parser.parse_bank1_luminaire.Tie as tie
 
-u16-at-requires : tie.Need-u16-at-requires
-u16-at-requires c κs = search needs
-
-enum-told : tie.Need-enum-told
-enum-told c = search needs
-
-blank-luminaire-requires : tie.Need-blank-luminaire-requires
-blank-luminaire-requires c κs = search needs
-
-enum-known-id : tie.Need-enum-known-id
-enum-known-id c = search needs
-
-from-content-format-id-requires : tie.Need-from-content-format-id-requires
-from-content-format-id-requires c κs = search needs
-
-enum-told-2 : tie.Need-enum-told-2
-enum-told-2 c = search needs
-
-blank-luminaire-requires-2 : tie.Need-blank-luminaire-requires-2
-blank-luminaire-requires-2 c κs = search needs
-
-enum-known-format : tie.Need-enum-known-format
-enum-known-format c = search needs
-
-parse-luminaire-numbers-requires : tie.Need-parse-luminaire-numbers-requires
-parse-luminaire-numbers-requires c κs = search needs
-
-fill-luminaire-text-requires : tie.Need-fill-luminaire-text-requires
-fill-luminaire-text-requires c κs = search needs
-
 returns : tie.Need-returns
 unfolding luminaireFields bind
 returns c =
@@ -75,16 +45,16 @@ pub parse-bank1-luminaire-spec : {M : Type 1} → statement M
 parse-bank1-luminaire-spec =
     tie.close
     (tie.spec
-    u16-at-requires
-    enum-told
-    blank-luminaire-requires
-    enum-known-id
-    from-content-format-id-requires
-    enum-told-2
-    blank-luminaire-requires-2
-    enum-known-format
-    parse-luminaire-numbers-requires
-    fill-luminaire-text-requires
+    (λ c κs. search needs)
+    (λ c. search needs)
+    (λ c κs. search needs)
+    (λ c. search needs)
+    (λ c κs. search needs)
+    (λ c. search needs)
+    (λ c κs. search needs)
+    (λ c. search needs)
+    (λ c κs. search needs)
+    (λ c κs. search needs)
     returns
     returns-2
     returns-3)

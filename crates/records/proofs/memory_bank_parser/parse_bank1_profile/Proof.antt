@@ -4,15 +4,6 @@ use borrow.Author.Needs.{needs}
 use Rattle.records.proofs.memory_bank_parser.parse_bank1_profile.Statement.{statement}
 use Rattle.records.proofs.memory_bank_parser.parse_bank1_profile.Tie as tie
 
-byte-requires : tie.Need-byte-requires
-byte-requires c κs = search needs
-
-parse-be-u64-requires : tie.Need-parse-be-u64-requires
-parse-be-u64-requires c κs = search needs
-
-parse-be-u64-requires-2 : tie.Need-parse-be-u64-requires-2
-parse-be-u64-requires-2 c κs = search needs
-
 returns : tie.Need-returns
 returns c =
     let oem-gtin = c .before in
@@ -25,4 +16,4 @@ returns c =
 
 pub parse-bank1-profile-spec : {M : Type 1} → statement M
 parse-bank1-profile-spec =
-    tie.close (tie.spec byte-requires parse-be-u64-requires parse-be-u64-requires-2 returns)
+    tie.close (tie.spec (λ c κs. search needs) (λ c κs. search needs) (λ c κs. search needs) returns)

@@ -26,9 +26,6 @@ masked c =
     let o = a .start - a .start-offset in
     ap (λ (k : ℕ). allFF (take k (drop o (a .bytes .now)))) (long o (a .len)) ∙ sym (c .is-mask .ensures)
 
-holds-requires : tie.Need-holds-requires
-holds-requires c κs = search needs
-
 returns : tie.Need-returns
 returns c =
     let a = c .before .before .before .args in
@@ -40,25 +37,13 @@ sub-rel c = there c .from
 add-end : tie.Need-add-end
 add-end c = omega (arith, there c .within)
 
-sub-field : tie.Need-sub-field
-sub-field c = search needs
-
-part-field-start : tie.Need-part-field-start
-part-field-start c = search needs
-
 part-field-end : tie.Need-part-field-end
 part-field-end c = there c .within
-
-is-mask-requires : tie.Need-is-mask-requires
-is-mask-requires c κs = search needs
 
 returns-2 : tie.Need-returns-2
 returns-2 c =
     let t = there (c .before .before .before) in
     rw (t .is, masked (c .before) ∙ c .if2 .taken)
-
-number-of-requires : tie.Need-number-of-requires
-number-of-requires c κs = search needs
 
 returns-3 : tie.Need-returns-3
 returns-3 c =
@@ -72,14 +57,14 @@ pub parse-be-u64-spec : {M : Type 1} → statement M
 parse-be-u64-spec =
     tie.close
     (tie.spec
-    holds-requires
+    (λ c κs. search needs)
     returns
     sub-rel
     add-end
-    sub-field
-    part-field-start
+    (λ c. search needs)
+    (λ c. search needs)
     part-field-end
-    is-mask-requires
+    (λ c κs. search needs)
     returns-2
-    number-of-requires
+    (λ c κs. search needs)
     returns-3)

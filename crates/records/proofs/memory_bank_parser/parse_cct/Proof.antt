@@ -9,18 +9,6 @@ use Rattle.records.proofs.Luminaire.{value-of}
 use Rattle.records.proofs.memory_bank_parser.parse_cct.Statement.{statement}
 use Rattle.records.proofs.memory_bank_parser.parse_cct.Tie as tie
 
-u16-at-requires : tie.Need-u16-at-requires
-u16-at-requires c κs = search needs
-
-enum-known-raw : tie.Need-enum-known-raw
-enum-known-raw c = search needs
-
-cct-value-requires : tie.Need-cct-value-requires
-cct-value-requires c κs = search needs
-
-enum-told : tie.Need-enum-told
-enum-told c = search needs
-
 returns : tie.Need-returns
 returns c =
     let b = c .before .before .before .before in
@@ -36,4 +24,4 @@ returns-2 c =
 pub parse-cct-spec : {M : Type 1} → statement M
 parse-cct-spec =
     tie.close
-    (tie.spec u16-at-requires enum-known-raw cct-value-requires enum-told returns returns-2)
+    (tie.spec (λ c κs. search needs) (λ c. search needs) (λ c κs. search needs) (λ c. search needs) returns returns-2)

@@ -4,48 +4,6 @@ use borrow.Author.Needs.{needs}
 use Rattle.records.proofs.memory_bank_parser.parse_gear_diagnostics.Statement.{statement}
 use Rattle.records.proofs.memory_bank_parser.parse_gear_diagnostics.Tie as tie
 
-byte-requires : tie.Need-byte-requires
-byte-requires c κs = search needs
-
-parse-reading-requires : tie.Need-parse-reading-requires
-parse-reading-requires c κs = search needs
-
-parse-reading-requires-2 : tie.Need-parse-reading-requires-2
-parse-reading-requires-2 c κs = search needs
-
-parse-reading-requires-3 : tie.Need-parse-reading-requires-3
-parse-reading-requires-3 c κs = search needs
-
-parse-reading-requires-4 : tie.Need-parse-reading-requires-4
-parse-reading-requires-4 c κs = search needs
-
-parse-reading-requires-5 : tie.Need-parse-reading-requires-5
-parse-reading-requires-5 c κs = search needs
-
-parse-condition-requires : tie.Need-parse-condition-requires
-parse-condition-requires c κs = search needs
-
-parse-condition-requires-2 : tie.Need-parse-condition-requires-2
-parse-condition-requires-2 c κs = search needs
-
-parse-condition-requires-3 : tie.Need-parse-condition-requires-3
-parse-condition-requires-3 c κs = search needs
-
-parse-condition-requires-4 : tie.Need-parse-condition-requires-4
-parse-condition-requires-4 c κs = search needs
-
-parse-condition-requires-5 : tie.Need-parse-condition-requires-5
-parse-condition-requires-5 c κs = search needs
-
-parse-condition-requires-6 : tie.Need-parse-condition-requires-6
-parse-condition-requires-6 c κs = search needs
-
-parse-reading-requires-6 : tie.Need-parse-reading-requires-6
-parse-reading-requires-6 c κs = search needs
-
-parse-reading-requires-7 : tie.Need-parse-reading-requires-7
-parse-reading-requires-7 c κs = search needs
-
 returns : tie.Need-returns
 returns c =
     let temperature-offset60 = c .before in
@@ -82,18 +40,18 @@ pub parse-gear-diagnostics-spec : {M : Type 1} → statement M
 parse-gear-diagnostics-spec =
     tie.close
     (tie.spec
-    byte-requires
-    parse-reading-requires
-    parse-reading-requires-2
-    parse-reading-requires-3
-    parse-reading-requires-4
-    parse-reading-requires-5
-    parse-condition-requires
-    parse-condition-requires-2
-    parse-condition-requires-3
-    parse-condition-requires-4
-    parse-condition-requires-5
-    parse-condition-requires-6
-    parse-reading-requires-6
-    parse-reading-requires-7
+    (λ c κs. search needs)
+    (λ c κs. search needs)
+    (λ c κs. search needs)
+    (λ c κs. search needs)
+    (λ c κs. search needs)
+    (λ c κs. search needs)
+    (λ c κs. search needs)
+    (λ c κs. search needs)
+    (λ c κs. search needs)
+    (λ c κs. search needs)
+    (λ c κs. search needs)
+    (λ c κs. search needs)
+    (λ c κs. search needs)
+    (λ c κs. search needs)
     returns)

@@ -8,15 +8,9 @@ use Rattle.bank.specs.Fields.{luminaireFields}
 use Rattle.records.proofs.memory_bank_parser.parse_lamp_current.Statement.{statement}
 use Rattle.records.proofs.memory_bank_parser.parse_lamp_current.Tie as tie
 
-has-extended-block-requires : tie.Need-has-extended-block-requires
-has-extended-block-requires c κs = search needs
-
 returns : tie.Need-returns
 unfolding luminaireFields bind
 returns c = rw (sym (c .before .has-extended-block .ensures) ∙ not-true _ (c .if1 .taken))
-
-u16-field-requires : tie.Need-u16-field-requires
-u16-field-requires c κs = search needs
 
 returns-2 : tie.Need-returns-2
 unfolding luminaireFields bind
@@ -24,4 +18,4 @@ returns-2 c = rw (sym (c .before .before .has-extended-block .ensures) ∙ not-f
 
 pub parse-lamp-current-spec : {M : Type 1} → statement M
 parse-lamp-current-spec =
-    tie.close (tie.spec has-extended-block-requires returns u16-field-requires returns-2)
+    tie.close (tie.spec (λ c κs. search needs) returns (λ c κs. search needs) returns-2)

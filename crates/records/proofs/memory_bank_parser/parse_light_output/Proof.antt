@@ -17,12 +17,6 @@ use Rattle.records.proofs.memory_bank_parser.parse_light_output.Tie as 
 there : (c : tie.Else1) → (let a = c .before .before .before .args in There (a .start-offset) (a .bytes .now) 0x1D 3)
 there c = is-there _ _ _ _ (sym (c .before .holds .ensures) ∙ not-false _ (c .if1 .left))
 
-cast-offset : tie.Need-cast-offset
-cast-offset c = search needs
-
-holds-requires : tie.Need-holds-requires
-holds-requires c κs = search needs
-
 returns : tie.Need-returns
 returns c =
     let a = c .before .before .before .args in
@@ -31,28 +25,13 @@ returns c =
 sub-rel : tie.Need-sub-rel
 sub-rel c = there c .from
 
-add-end : tie.Need-add-end
-add-end c = search needs
-
-sub-number-of : tie.Need-sub-number-of
-sub-number-of c = search needs
-
-part-number-of-start : tie.Need-part-number-of-start
-part-number-of-start c = search needs
-
 part-number-of-end : tie.Need-part-number-of-end
 part-number-of-end c = there c .within
-
-number-of-requires : tie.Need-number-of-requires
-number-of-requires c κs = search needs
 
 cast-raw : tie.Need-cast-raw
 cast-raw c =
     let a = c .before .before .before .before .before .args in
     omega (arith, part-below (a .bytes .now) (0x1D - a .start-offset) 3 (c .number-of .ensures .1))
-
-classified-requires : tie.Need-classified-requires
-classified-requires c κs = search needs
 
 returns-2 : tie.Need-returns-2
 returns-2 c =
@@ -65,15 +44,15 @@ pub parse-light-output-spec : {M : Type 1} → statement M
 parse-light-output-spec =
     tie.close
     (tie.spec
-    cast-offset
-    holds-requires
+    (λ c. search needs)
+    (λ c κs. search needs)
     returns
     sub-rel
-    add-end
-    sub-number-of
-    part-number-of-start
+    (λ c. search needs)
+    (λ c. search needs)
+    (λ c. search needs)
     part-number-of-end
-    number-of-requires
+    (λ c κs. search needs)
     cast-raw
-    classified-requires
+    (λ c κs. search needs)
     returns-2)

@@ -4,18 +4,6 @@ use borrow.Author.Needs.{needs}
 use Rattle.records.proofs.memory_bank_parser.parse_luminaire_maintenance.Statement.{statement}
 use Rattle.records.proofs.memory_bank_parser.parse_luminaire_maintenance.Tie as tie
 
-byte-requires : tie.Need-byte-requires
-byte-requires c κs = search needs
-
-parse-reading-requires : tie.Need-parse-reading-requires
-parse-reading-requires c κs = search needs
-
-parse-reading-requires-2 : tie.Need-parse-reading-requires-2
-parse-reading-requires-2 c κs = search needs
-
-parse-reading-requires-3 : tie.Need-parse-reading-requires-3
-parse-reading-requires-3 c κs = search needs
-
 returns : tie.Need-returns
 returns c =
     let reference-temperature-offset60 = c .before in
@@ -32,8 +20,8 @@ pub parse-luminaire-maintenance-spec : {M : Type 1} → statement M
 parse-luminaire-maintenance-spec =
     tie.close
     (tie.spec
-    byte-requires
-    parse-reading-requires
-    parse-reading-requires-2
-    parse-reading-requires-3
+    (λ c κs. search needs)
+    (λ c κs. search needs)
+    (λ c κs. search needs)
+    (λ c κs. search needs)
     returns)

@@ -7,45 +7,6 @@ use Rattle.records.proofs.Luminaire.{from-first}
 use Rattle.records.proofs.memory_bank_parser.parse_luminaire_numbers.Statement.{statement}
 use Rattle.records.proofs.memory_bank_parser.parse_luminaire_numbers.Tie as tie
 
-absent-requires : tie.Need-absent-requires
-absent-requires c κs = search needs
-
-u8-field-requires : tie.Need-u8-field-requires
-u8-field-requires c κs = search needs
-
-u8-field-requires-2 : tie.Need-u8-field-requires-2
-u8-field-requires-2 c κs = search needs
-
-u16-field-requires : tie.Need-u16-field-requires
-u16-field-requires c κs = search needs
-
-u16-field-requires-2 : tie.Need-u16-field-requires-2
-u16-field-requires-2 c κs = search needs
-
-u16-field-requires-3 : tie.Need-u16-field-requires-3
-u16-field-requires-3 c κs = search needs
-
-u16-field-requires-4 : tie.Need-u16-field-requires-4
-u16-field-requires-4 c κs = search needs
-
-parse-light-output-requires : tie.Need-parse-light-output-requires
-parse-light-output-requires c κs = search needs
-
-u8-field-requires-3 : tie.Need-u8-field-requires-3
-u8-field-requires-3 c κs = search needs
-
-parse-cct-requires : tie.Need-parse-cct-requires
-parse-cct-requires c κs = search needs
-
-parse-light-distribution-type-requires : tie.Need-parse-light-distribution-type-requires
-parse-light-distribution-type-requires c κs = search needs
-
-absent-requires-2 : tie.Need-absent-requires-2
-absent-requires-2 c κs = search needs
-
-parse-lamp-current-requires : tie.Need-parse-lamp-current-requires
-parse-lamp-current-requires c κs = search needs
-
 returns : tie.Need-returns
 unfolding luminaireFields bind
 returns c =
@@ -82,17 +43,17 @@ pub parse-luminaire-numbers-spec : {M : Type 1} → statement M
 parse-luminaire-numbers-spec =
     tie.close
     (tie.spec
-    absent-requires
-    u8-field-requires
-    u8-field-requires-2
-    u16-field-requires
-    u16-field-requires-2
-    u16-field-requires-3
-    u16-field-requires-4
-    parse-light-output-requires
-    u8-field-requires-3
-    parse-cct-requires
-    parse-light-distribution-type-requires
-    absent-requires-2
-    parse-lamp-current-requires
+    (λ c κs. search needs)
+    (λ c κs. search needs)
+    (λ c κs. search needs)
+    (λ c κs. search needs)
+    (λ c κs. search needs)
+    (λ c κs. search needs)
+    (λ c κs. search needs)
+    (λ c κs. search needs)
+    (λ c κs. search needs)
+    (λ c κs. search needs)
+    (λ c κs. search needs)
+    (λ c κs. search needs)
+    (λ c κs. search needs)
     returns)

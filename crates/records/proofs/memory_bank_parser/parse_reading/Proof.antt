@@ -14,24 +14,6 @@ returns c =
     let a = c .before .before .args in
     rw (before (a .start-offset) (a .bytes .now) (a .offset) _ (omega arith))
 
-sub-rel : tie.Need-sub-rel
-sub-rel c = search needs
-
-cast-read-value : tie.Need-cast-read-value
-cast-read-value c = search needs
-
-read-value-requires : tie.Need-read-value-requires
-read-value-requires c κs = search needs
-
-enum-known-raw : tie.Need-enum-known-raw
-enum-known-raw c = search needs
-
-reading-of-requires : tie.Need-reading-of-requires
-reading-of-requires c κs = search needs
-
-enum-told : tie.Need-enum-told
-enum-told c = search needs
-
 returns-2 : tie.Need-returns-2
 returns-2 c =
     let r = c .before .before .before .before in
@@ -49,11 +31,11 @@ parse-reading-spec =
     tie.close
     (tie.spec
     returns
-    sub-rel
-    cast-read-value
-    read-value-requires
-    enum-known-raw
-    reading-of-requires
-    enum-told
+    (λ c. search needs)
+    (λ c. search needs)
+    (λ c κs. search needs)
+    (λ c. search needs)
+    (λ c κs. search needs)
+    (λ c. search needs)
     returns-2
     returns-3)

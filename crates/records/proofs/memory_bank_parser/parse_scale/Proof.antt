@@ -6,18 +6,6 @@ use Rattle.records.specs.Places.{byteAt}
 use Rattle.records.proofs.memory_bank_parser.parse_scale.Statement.{statement}
 use Rattle.records.proofs.memory_bank_parser.parse_scale.Tie as tie
 
-byte-requires : tie.Need-byte-requires
-byte-requires c κs = search needs
-
-enum-known-raw : tie.Need-enum-known-raw
-enum-known-raw c = search needs
-
-scale-of-requires : tie.Need-scale-of-requires
-scale-of-requires c κs = search needs
-
-enum-told : tie.Need-enum-told
-enum-told c = search needs
-
 returns : tie.Need-returns
 returns c =
     let b = c .before .before .before .before in
@@ -32,4 +20,4 @@ returns-2 c =
 
 pub parse-scale-spec : {M : Type 1} → statement M
 parse-scale-spec =
-    tie.close (tie.spec byte-requires enum-known-raw scale-of-requires enum-told returns returns-2)
+    tie.close (tie.spec (λ c κs. search needs) (λ c. search needs) (λ c κs. search needs) (λ c. search needs) returns returns-2)

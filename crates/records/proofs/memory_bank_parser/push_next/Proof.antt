@@ -22,24 +22,6 @@ pushed-as taken len = record { taken = taken; len = len }
 within : (c : tie.After-sequence-len) → c .sequence-len .result ≤ length (now (c .before .before .before .args .rest))
 within c = rw (c .sequence-len .ensures) (fits (now (c .before .before .before .args .rest)))
 
-sequence-len-requires : tie.Need-sequence-len-requires
-sequence-len-requires c κs = search needs
-
-shared-slice-read-format-hex-escape : tie.Need-shared-slice-read-format-hex-escape
-shared-slice-read-format-hex-escape c = search needs
-
-format-hex-escape-requires : tie.Need-format-hex-escape-requires
-format-hex-escape-requires c κs = search needs
-
-slice-aggregate-push : tie.Need-slice-aggregate-push
-slice-aggregate-push c = search needs
-
-push-requires : tie.Need-push-requires
-push-requires c κs = search needs
-
-same-length : tie.Need-same-length
-same-length c = search needs
-
 returns : tie.Need-returns
 returns c =
     let p = c .before .before in
@@ -52,12 +34,6 @@ returns c =
 
 slice-aggregate-push-2 : tie.Need-slice-aggregate-push-2
 slice-aggregate-push-2 c = sym (length-take-le _ _ (within (c .before .before)))
-
-push-requires-2 : tie.Need-push-requires-2
-push-requires-2 c κs = search needs
-
-same-length-2 : tie.Need-same-length-2
-same-length-2 c = search needs
 
 returns-2 : tie.Need-returns-2
 returns-2 c =
@@ -73,14 +49,14 @@ pub push-next-spec : {M : Type 1} → statement M
 push-next-spec =
     tie.close
     (tie.spec
-    sequence-len-requires
-    shared-slice-read-format-hex-escape
-    format-hex-escape-requires
-    slice-aggregate-push
-    push-requires
-    same-length
+    (λ c κs. search needs)
+    (λ c. search needs)
+    (λ c κs. search needs)
+    (λ c. search needs)
+    (λ c κs. search needs)
+    (λ c. search needs)
     returns
     slice-aggregate-push-2
-    push-requires-2
-    same-length-2
+    (λ c κs. search needs)
+    (λ c. search needs)
     returns-2)

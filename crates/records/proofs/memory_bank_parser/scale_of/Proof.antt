@@ -18,12 +18,6 @@ meaning c = toZ-ofZ (record { sfits = c .signed-byte .ok }) ∙ c .signed-byte .
 tested : (c : tie.After-is-scale) → isScale (signedMeaning 8 (c .before .before .args .raw)) ≡ c .is-scale .result
 tested c = ap isScale (sym (meaning (c .before))) ∙ sym (c .is-scale .ensures)
 
-signed-byte-requires : tie.Need-signed-byte-requires
-signed-byte-requires c κs = search needs
-
-is-scale-requires : tie.Need-is-scale-requires
-is-scale-requires c κs = search needs
-
 returns : tie.Need-returns
 returns c = rw (tested (c .before) ∙ not-true _ (c .if1 .taken))
 
@@ -31,4 +25,4 @@ returns-2 : tie.Need-returns-2
 returns-2 c = rw (tested (c .before) ∙ not-false _ (c .if1 .left)) (ap OptionI8.Some (meaning (c .before .before)))
 
 pub scale-of-spec : {M : Type 1} → statement M
-scale-of-spec = tie.close (tie.spec signed-byte-requires is-scale-requires returns returns-2)
+scale-of-spec = tie.close (tie.spec (λ c κs. search needs) (λ c κs. search needs) returns returns-2)

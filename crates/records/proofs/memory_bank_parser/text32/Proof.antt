@@ -5,17 +5,11 @@ use borrow.Author.Needs.{needs}
 use Rattle.records.proofs.memory_bank_parser.text32.Statement.{statement}
 use Rattle.records.proofs.memory_bank_parser.text32.Tie as tie
 
-absent-requires : tie.Need-absent-requires
-absent-requires c κs = search needs
-
 returns : tie.Need-returns
 returns c = rw (not-true (c .before .before .before .args .has) (c .before .if1 .taken)) (c .absent .ensures)
-
-text-region-requires : tie.Need-text-region-requires
-text-region-requires c κs = search needs
 
 returns-2 : tie.Need-returns-2
 returns-2 c = rw (not-false (c .before .before .before .args .has) (c .before .if1 .left)) (c .text-region .ensures)
 
 pub text32-spec : {M : Type 1} → statement M
-text32-spec = tie.close (tie.spec absent-requires returns text-region-requires returns-2)
+text32-spec = tie.close (tie.spec (λ c κs. search needs) returns (λ c κs. search needs) returns-2)

@@ -15,53 +15,20 @@ use Rattle.records.proofs.memory_bank_parser.text_region.Tie as tie
 there : (c : tie.Else1) → (let a = c .before .before .before .before .before .args in There (a .start-offset) (a .bytes .now) (a .region .offset) (a .region .len))
 there c = is-there _ _ _ _ (sym (c .before .holds .ensures) ∙ not-false _ (c .if1 .left))
 
-cast-holds : tie.Need-cast-holds
-cast-holds c = search needs
-
-cast-holds-2 : tie.Need-cast-holds-2
-cast-holds-2 c = search needs
-
-holds-requires : tie.Need-holds-requires
-holds-requires c κs = search needs
-
-absent-requires : tie.Need-absent-requires
-absent-requires c κs = search needs
-
 returns : tie.Need-returns
 returns c =
     let h = c .before .before in
     let a = h .before .before .before .before .args in
     rw (not-there (a .start-offset) (a .bytes .now) (a .region .offset) (a .region .len) (sym (h .holds .ensures) ∙ not-true _ (c .before .if1 .taken))) (c .absent .ensures)
 
-cast-rel : tie.Need-cast-rel
-cast-rel c = search needs
-
 sub-rel : tie.Need-sub-rel
 sub-rel c = there (c .before) .from
-
-cast-end : tie.Need-cast-end
-cast-end c = search needs
-
-add-end : tie.Need-add-end
-add-end c = search needs
-
-sub-raw : tie.Need-sub-raw
-sub-raw c = search needs
-
-part-raw-start : tie.Need-part-raw-start
-part-raw-start c = search needs
 
 part-raw-end : tie.Need-part-raw-end
 part-raw-end c = there (c .before .before) .within
 
-text-len-requires : tie.Need-text-len-requires
-text-len-requires c κs = search needs
-
 slice-aggregate-escape-into-bounded : tie.Need-slice-aggregate-escape-into-bounded
 slice-aggregate-escape-into-bounded c = sym (length-take-le _ _ (c .before .text-len .ensures .0))
-
-escape-into-bounded-requires : tie.Need-escape-into-bounded-requires
-escape-into-bounded-requires c κs = search needs
 
 returns-2 : tie.Need-returns-2
 returns-2 c =
@@ -77,19 +44,19 @@ pub text-region-spec : {M : Type 1} → statement M
 text-region-spec =
     tie.close
     (tie.spec
-    cast-holds
-    cast-holds-2
-    holds-requires
-    absent-requires
+    (λ c. search needs)
+    (λ c. search needs)
+    (λ c κs. search needs)
+    (λ c κs. search needs)
     returns
-    cast-rel
+    (λ c. search needs)
     sub-rel
-    cast-end
-    add-end
-    sub-raw
-    part-raw-start
+    (λ c. search needs)
+    (λ c. search needs)
+    (λ c. search needs)
+    (λ c. search needs)
     part-raw-end
-    text-len-requires
+    (λ c κs. search needs)
     slice-aggregate-escape-into-bounded
-    escape-into-bounded-requires
+    (λ c κs. search needs)
     returns-2)

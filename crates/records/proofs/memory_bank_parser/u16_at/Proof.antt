@@ -13,9 +13,6 @@ use Rattle.records.proofs.memory_bank_parser.u16_at.Tie as tie
 there : (c : tie.Else1) → (let a = c .before .before .before .args in There (a .start-offset) (a .bytes .now) (a .offset) 2)
 there c = is-there _ _ _ _ (sym (c .before .holds .ensures) ∙ not-false _ (c .if1 .left))
 
-holds-requires : tie.Need-holds-requires
-holds-requires c κs = search needs
-
 returns : tie.Need-returns
 returns c =
     let a = c .before .before .before .args in
@@ -24,20 +21,8 @@ returns c =
 sub-rel : tie.Need-sub-rel
 sub-rel c = there c .from
 
-add-end : tie.Need-add-end
-add-end c = search needs
-
-sub-number-of : tie.Need-sub-number-of
-sub-number-of c = search needs
-
-part-number-of-start : tie.Need-part-number-of-start
-part-number-of-start c = search needs
-
 part-number-of-end : tie.Need-part-number-of-end
 part-number-of-end c = there c .within
-
-number-of-requires : tie.Need-number-of-requires
-number-of-requires c κs = search needs
 
 cast-raw : tie.Need-cast-raw
 cast-raw c =
@@ -52,13 +37,13 @@ pub u16-at-spec : {M : Type 1} → statement M
 u16-at-spec =
     tie.close
     (tie.spec
-    holds-requires
+    (λ c κs. search needs)
     returns
     sub-rel
-    add-end
-    sub-number-of
-    part-number-of-start
+    (λ c. search needs)
+    (λ c. search needs)
+    (λ c. search needs)
     part-number-of-end
-    number-of-requires
+    (λ c κs. search needs)
     cast-raw
     returns-2)

@@ -7,21 +7,6 @@ use Rattle.records.proofs.Luminaire.{value-of}
 use Rattle.records.proofs.memory_bank_parser.u8_field.Statement.{statement}
 use Rattle.records.proofs.memory_bank_parser.u8_field.Tie as tie
 
-byte-requires : tie.Need-byte-requires
-byte-requires c κs = search needs
-
-enum-known-raw : tie.Need-enum-known-raw
-enum-known-raw c = search needs
-
-cast-classified : tie.Need-cast-classified
-cast-classified c = search needs
-
-classified-requires : tie.Need-classified-requires
-classified-requires c κs = search needs
-
-enum-told : tie.Need-enum-told
-enum-told c = search needs
-
 returns : tie.Need-returns
 returns c =
     let b = c .before .before .before .before in
@@ -38,10 +23,10 @@ pub u8-field-spec : {M : Type 1} → statement M
 u8-field-spec =
     tie.close
     (tie.spec
-    byte-requires
-    enum-known-raw
-    cast-classified
-    classified-requires
-    enum-told
+    (λ c κs. search needs)
+    (λ c. search needs)
+    (λ c. search needs)
+    (λ c κs. search needs)
+    (λ c. search needs)
     returns
     returns-2)

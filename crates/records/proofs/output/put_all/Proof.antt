@@ -22,9 +22,6 @@ returns c =
     let a = c .before .args in
     sym (sets-behind (a .out .now) (a .at) (a .bytes .now) (omega arith))
 
-sub-room : tie.Need-sub-room Inv-loop μ-loop
-sub-room c = omega arith
-
 loop-holds : tie.Need-loop-holds Inv-loop μ-loop
 loop-holds c = (omega arith, omega arith, omega arith, refl)
 
@@ -40,23 +37,11 @@ returns-2 c =
     let a = l .before .before .args in
     l .loop .inv .3 ∙ sets-full (a .out .now) (a .at) (l .loop .i) (a .bytes .now) (omega arith) (omega arith)
 
-shared-slice-read-out : tie.Need-shared-slice-read-out Inv-loop μ-loop
-shared-slice-read-out c = omega arith
-
-add-out : tie.Need-add-out Inv-loop μ-loop
-add-out c = omega arith
-
 slice-write-out : tie.Need-slice-write-out Inv-loop μ-loop
 slice-write-out c =
     let l = c .before .before .before in
     let a = l .before .before .args in
     omega (arith, ap length (l .loop .inv .3) ∙ length-sets (a .out .now) (a .at) (take (l .loop .i) (a .bytes .now)))
-
-add-i : tie.Need-add-i Inv-loop μ-loop
-add-i c = omega arith
-
-loop-less : tie.Need-loop-less Inv-loop μ-loop
-loop-less c = omega arith
 
 loop-again : tie.Need-loop-again Inv-loop μ-loop
 loop-again c =
@@ -83,15 +68,15 @@ put-all-spec =
     Inv-loop
     μ-loop
     returns
-    sub-room
+    (λ c. omega arith)
     loop-holds
     same-length
     returns-2
-    shared-slice-read-out
-    add-out
+    (λ c. omega arith)
+    (λ c. omega arith)
     slice-write-out
-    add-i
-    loop-less
+    (λ c. omega arith)
+    (λ c. omega arith)
     loop-again
     same-length-2
     returns-3)

@@ -50,32 +50,14 @@ returns c =
     let few : length (drop 1 (a .bytes .now)) < suc (length (replicate (a .len - 2) tail)) = rw (length-drop, length-replicate) (omega arith) in
     rw (too-few (to (a .low) (a .high) ∷ replicate (a .len - 2) tail) (drop 1 (a .bytes .now)) few)
 
-shared-slice-read-is-within : tie.Need-shared-slice-read-is-within Inv-loop μ-loop
-shared-slice-read-is-within c = omega arith
-
-is-within-requires : tie.Need-is-within-requires Inv-loop μ-loop
-is-within-requires c κs = search needs
-
 returns-2 : tie.Need-returns-2 Inv-loop μ-loop
 returns-2 c = rw (second (c .before) (not-true _ (c .if2 .taken)))
 
 loop-holds : tie.Need-loop-holds Inv-loop μ-loop
 loop-holds c = (omega arith, omega arith, rw (second (c .before) (not-false _ (c .if2 .left))))
 
-shared-slice-read-is-within-2 : tie.Need-shared-slice-read-is-within-2 Inv-loop μ-loop
-shared-slice-read-is-within-2 c = omega arith
-
-is-within-requires-2 : tie.Need-is-within-requires-2 Inv-loop μ-loop
-is-within-requires-2 c κs = search needs
-
 returns-3 : tie.Need-returns-3 Inv-loop μ-loop
 returns-3 c = rw (further (c .before) (not-true _ (c .if3 .taken)))
-
-add-i : tie.Need-add-i Inv-loop μ-loop
-add-i c = omega arith
-
-loop-less : tie.Need-loop-less Inv-loop μ-loop
-loop-less c = omega arith
 
 loop-again : tie.Need-loop-again Inv-loop μ-loop
 loop-again c = (omega arith, omega arith, rw (further (c .before) (not-false _ (c .if3 .left))))
@@ -93,14 +75,14 @@ followed-spec =
     Inv-loop
     μ-loop
     returns
-    shared-slice-read-is-within
-    is-within-requires
+    (λ c. omega arith)
+    (λ c κs. search needs)
     returns-2
     loop-holds
-    shared-slice-read-is-within-2
-    is-within-requires-2
+    (λ c. omega arith)
+    (λ c κs. search needs)
     returns-3
-    add-i
-    loop-less
+    (λ c. omega arith)
+    (λ c. omega arith)
     loop-again
     returns-4)

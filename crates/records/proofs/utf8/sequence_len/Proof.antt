@@ -8,33 +8,6 @@ use Rattle.records.proofs.Sequences.{row-of, no-row-under, no-row-over}
 use Rattle.records.proofs.utf8.sequence_len.Statement.{statement}
 use Rattle.records.proofs.utf8.sequence_len.Tie as tie
 
-shared-slice-read-first : tie.Need-shared-slice-read-first
-shared-slice-read-first c = search needs
-
-followed-requires : tie.Need-followed-requires
-followed-requires c κs = search needs
-
-followed-requires-2 : tie.Need-followed-requires-2
-followed-requires-2 c κs = search needs
-
-followed-requires-3 : tie.Need-followed-requires-3
-followed-requires-3 c κs = search needs
-
-followed-requires-4 : tie.Need-followed-requires-4
-followed-requires-4 c κs = search needs
-
-followed-requires-5 : tie.Need-followed-requires-5
-followed-requires-5 c κs = search needs
-
-followed-requires-6 : tie.Need-followed-requires-6
-followed-requires-6 c κs = search needs
-
-followed-requires-7 : tie.Need-followed-requires-7
-followed-requires-7 c κs = search needs
-
-followed-requires-8 : tie.Need-followed-requires-8
-followed-requires-8 c κs = search needs
-
 returns : tie.Need-returns
 unfolding table3-7
 returns c =
@@ -103,15 +76,15 @@ pub sequence-len-spec : {M : Type 1} → statement M
 sequence-len-spec =
     tie.close
     (tie.spec
-    shared-slice-read-first
-    followed-requires
-    followed-requires-2
-    followed-requires-3
-    followed-requires-4
-    followed-requires-5
-    followed-requires-6
-    followed-requires-7
-    followed-requires-8
+    (λ c. search needs)
+    (λ c κs. search needs)
+    (λ c κs. search needs)
+    (λ c κs. search needs)
+    (λ c κs. search needs)
+    (λ c κs. search needs)
+    (λ c κs. search needs)
+    (λ c κs. search needs)
+    (λ c κs. search needs)
     returns
     returns-2
     returns-3

@@ -16,17 +16,11 @@ use Rattle.stores.proofs.file.is_good.Tie as tie
 returns : tie.Need-returns
 returns c = sym (short-bad (c .before .before .args .file .now) (c .if1 .taken))
 
-is-marked-requires : tie.Need-is-marked-requires
-is-marked-requires c κs = search needs
-
 returns-2 : tie.Need-returns-2
 returns-2 c =
     let m = c .before in
     let f = m .before .before .before .args .file .now in
     rw (good-is f (m .is-marked .ensures) refl refl refl, not-true (m .is-marked .result) (c .if2 .taken))
-
-number-at-requires : tie.Need-number-at-requires
-number-at-requires c κs = search needs
 
 returns-3 : tie.Need-returns-3
 returns-3 c =
@@ -38,15 +32,6 @@ returns-3 c =
       not-false (m .is-marked .result) (v .before .if2 .left),
       ne-eqb _ _ (c .if3 .taken),
     )
-
-number-at-requires-2 : tie.Need-number-at-requires-2
-number-at-requires-2 c κs = search needs
-
-cast-text-len : tie.Need-cast-text-len
-cast-text-len c = search needs
-
-sub-if4 : tie.Need-sub-if4
-sub-if4 c = search needs
 
 returns-4 : tie.Need-returns-4
 returns-4 c =
@@ -60,9 +45,6 @@ returns-4 c =
       eq-eqb _ _ (n .before .if3 .left),
       ne-eqb (length f) (31 + n .number-at2 .result) (λ e. c .if4 .taken (omega (arith, e))),
     )
-
-number-at-requires-3 : tie.Need-number-at-requires-3
-number-at-requires-3 c κs = search needs
 
 -- all but the last test passed
 passed : (c : tie.After-number-at3) → isGood (c .before .before .before .before .before .before .before .before .before .args .file .now) ≡ (not (eqb (c .number-at3 .result) 0xFF) || eqb (c .before .before .number-at2 .result) 0)
@@ -89,14 +71,14 @@ is-good-spec =
     tie.close
     (tie.spec
     returns
-    is-marked-requires
+    (λ c κs. search needs)
     returns-2
-    number-at-requires
+    (λ c κs. search needs)
     returns-3
-    number-at-requires-2
-    cast-text-len
-    sub-if4
+    (λ c κs. search needs)
+    (λ c. search needs)
+    (λ c. search needs)
     returns-4
-    number-at-requires-3
+    (λ c κs. search needs)
     returns-5
     returns-6)

@@ -10,15 +10,6 @@ use Rattle.stores.proofs.Heads.{mark-is}
 use Rattle.stores.proofs.file.is_marked.Statement.{statement}
 use Rattle.stores.proofs.file.is_marked.Tie as tie
 
-shared-slice-read-if1 : tie.Need-shared-slice-read-if1
-shared-slice-read-if1 c = search needs
-
-shared-slice-read-if2 : tie.Need-shared-slice-read-if2
-shared-slice-read-if2 c = search needs
-
-shared-slice-read-result : tie.Need-shared-slice-read-result
-shared-slice-read-result c = search needs
-
 returns : tie.Need-returns
 returns c =
     let j = c .before .before in
@@ -41,8 +32,8 @@ pub is-marked-spec : {M : Type 1} → statement M
 is-marked-spec =
     tie.close
     (tie.spec
-    shared-slice-read-if1
-    shared-slice-read-if2
-    shared-slice-read-result
+    (λ c. search needs)
+    (λ c. search needs)
+    (λ c. search needs)
     returns
     returns-2)

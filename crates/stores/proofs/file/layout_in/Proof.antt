@@ -7,14 +7,8 @@ use Rattle.stores.specs.File.{layoutIn}
 use Rattle.stores.proofs.file.layout_in.Statement.{statement}
 use Rattle.stores.proofs.file.layout_in.Tie as tie
 
-number-at-requires : tie.Need-number-at-requires
-number-at-requires c κs = search needs
-
 cast-t4 : tie.Need-cast-t4
 cast-t4 c = omega (arith, c .number-at .ensures .1)
-
-number-at-requires-2 : tie.Need-number-at-requires-2
-number-at-requires-2 c κs = search needs
 
 cast-t7 : tie.Need-cast-t7
 cast-t7 c = omega (arith, c .number-at2 .ensures .1)
@@ -25,4 +19,4 @@ returns c = rw (c .before .number-at .ensures .0, c .number-at2 .ensures .0)
 
 pub layout-in-spec : {M : Type 1} → statement M
 layout-in-spec =
-    tie.close (tie.spec number-at-requires cast-t4 number-at-requires-2 cast-t7 returns)
+    tie.close (tie.spec (λ c κs. search needs) cast-t4 (λ c κs. search needs) cast-t7 returns)

@@ -7,44 +7,8 @@ use Rattle.stores.specs.File.{numbersIn}
 use Rattle.stores.proofs.file.numbers_in.Statement.{statement}
 use Rattle.stores.proofs.file.numbers_in.Tie as tie
 
-number-at-requires : tie.Need-number-at-requires
-number-at-requires c κs = search needs
-
 cast-t3 : tie.Need-cast-t3
 cast-t3 c = omega (arith, c .number-at .ensures .1)
-
-number-at-requires-2 : tie.Need-number-at-requires-2
-number-at-requires-2 c κs = search needs
-
-number-at-requires-3 : tie.Need-number-at-requires-3
-number-at-requires-3 c κs = search needs
-
-number-at-requires-4 : tie.Need-number-at-requires-4
-number-at-requires-4 c κs = search needs
-
-number-at-requires-5 : tie.Need-number-at-requires-5
-number-at-requires-5 c κs = search needs
-
-number-at-requires-6 : tie.Need-number-at-requires-6
-number-at-requires-6 c κs = search needs
-
-number-at-requires-7 : tie.Need-number-at-requires-7
-number-at-requires-7 c κs = search needs
-
-number-at-requires-8 : tie.Need-number-at-requires-8
-number-at-requires-8 c κs = search needs
-
-number-at-requires-9 : tie.Need-number-at-requires-9
-number-at-requires-9 c κs = search needs
-
-number-at-requires-10 : tie.Need-number-at-requires-10
-number-at-requires-10 c κs = search needs
-
-number-at-requires-11 : tie.Need-number-at-requires-11
-number-at-requires-11 c κs = search needs
-
-number-at-requires-12 : tie.Need-number-at-requires-12
-number-at-requires-12 c κs = search needs
 
 returns : tie.Need-returns
 unfolding numbersIn luminaireFields
@@ -78,17 +42,17 @@ pub numbers-in-spec : {M : Type 1} → statement M
 numbers-in-spec =
     tie.close
     (tie.spec
-    number-at-requires
+    (λ c κs. search needs)
     cast-t3
-    number-at-requires-2
-    number-at-requires-3
-    number-at-requires-4
-    number-at-requires-5
-    number-at-requires-6
-    number-at-requires-7
-    number-at-requires-8
-    number-at-requires-9
-    number-at-requires-10
-    number-at-requires-11
-    number-at-requires-12
+    (λ c κs. search needs)
+    (λ c κs. search needs)
+    (λ c κs. search needs)
+    (λ c κs. search needs)
+    (λ c κs. search needs)
+    (λ c κs. search needs)
+    (λ c κs. search needs)
+    (λ c κs. search needs)
+    (λ c κs. search needs)
+    (λ c κs. search needs)
+    (λ c κs. search needs)
     returns)

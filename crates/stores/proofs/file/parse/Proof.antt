@@ -15,9 +15,6 @@ good c =
     let g = c .before in
     sym (g .is-good .ensures) ∙ not-false (g .is-good .result) (c .if1 .left)
 
-is-good-requires : tie.Need-is-good-requires
-is-good-requires c κs = search needs
-
 returns : tie.Need-returns
 returns c =
     let g = c .before in
@@ -42,7 +39,7 @@ pub parse-spec : {M : Type 1} → statement M
 parse-spec =
     tie.close
     (tie.spec
-    is-good-requires
+    (λ c κs. search needs)
     returns
     layout-in-requires
     numbers-in-requires

@@ -6,16 +6,10 @@ use Rattle.stores.proofs.Heads.{field-is}
 use Rattle.stores.proofs.file.text_field_in.Statement.{statement}
 use Rattle.stores.proofs.file.text_field_in.Tie as tie
 
-number-at-requires : tie.Need-number-at-requires
-number-at-requires c κs = search needs
-
 returns : tie.Need-returns
 returns c =
     let n = c .before in
     rw (field-is (n .before .before .args .file .now) (n .number-at .ensures .0), eq-eqb _ _ (c .if1 .taken))
-
-cast-t4 : tie.Need-cast-t4
-cast-t4 c = search needs
 
 returns-2 : tie.Need-returns-2
 returns-2 c =
@@ -23,4 +17,4 @@ returns-2 c =
     rw (field-is (n .before .before .args .file .now) (n .number-at .ensures .0), ne-eqb _ _ (c .if1 .left))
 
 pub text-field-in-spec : {M : Type 1} → statement M
-text-field-in-spec = tie.close (tie.spec number-at-requires returns cast-t4 returns-2)
+text-field-in-spec = tie.close (tie.spec (λ c κs. search needs) returns (λ c. search needs) returns-2)

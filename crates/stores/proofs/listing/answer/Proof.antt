@@ -19,35 +19,11 @@ asked c =
     let q = c .before .before in
     told-plan (parsed (q .before .before .before .args .file .now)) (q .parse .ensures) (c .plan .given .1)
 
-parse-requires : tie.Need-parse-requires
-parse-requires c κs = search needs
-
-enum-known-plan : tie.Need-enum-known-plan
-enum-known-plan c = search needs
-
 sub-put-plan : tie.Need-sub-put-plan
 sub-put-plan c = good-long _ (plan-good _ (asked (c .before .before)))
 
 part-put-plan-start : tie.Need-part-put-plan-start
 part-put-plan-start c = good-long _ (plan-good _ (asked (c .before .before)))
-
-part-put-plan-end : tie.Need-part-put-plan-end
-part-put-plan-end c = search needs
-
-put-plan-requires : tie.Need-put-plan-requires
-put-plan-requires c κs = search needs
-
-enum-told : tie.Need-enum-told
-enum-told c = search needs
-
-slice-aggregate-put-all : tie.Need-slice-aggregate-put-all
-slice-aggregate-put-all c = search needs
-
-put-all-requires : tie.Need-put-all-requires
-put-all-requires c κs = search needs
-
-same-length : tie.Need-same-length
-same-length c = search needs
 
 returns : tie.Need-returns
 returns c =
@@ -56,9 +32,6 @@ returns c =
     let a = k .before .before .before .before .before .args in
     let e = plan-printed (a .file .now) (asked k) in
     (p .put-plan .ensures .0 ∙ ap length (sym e), p .put-plan .ensures .1 ∙ ap (sets (a .out .now) 0) (sym e) ∙ sets-laid (printed (a .file .now)) (a .out .now))
-
-same-length-2 : tie.Need-same-length-2
-same-length-2 c = search needs
 
 returns-2 : tie.Need-returns-2
 returns-2 c =
@@ -73,16 +46,16 @@ pub answer-spec : {M : Type 1} → statement M
 answer-spec =
     tie.close
     (tie.spec
-    parse-requires
-    enum-known-plan
+    (λ c κs. search needs)
+    (λ c. search needs)
     sub-put-plan
     part-put-plan-start
-    part-put-plan-end
-    put-plan-requires
-    enum-told
-    slice-aggregate-put-all
-    put-all-requires
-    same-length
+    (λ c. search needs)
+    (λ c κs. search needs)
+    (λ c. search needs)
+    (λ c. search needs)
+    (λ c κs. search needs)
+    (λ c. search needs)
     returns
-    same-length-2
+    (λ c. search needs)
     returns-2)

@@ -12,23 +12,11 @@ use Rattle.stores.proofs.Lines.{decimal-short, counted-length, three-la
 use Rattle.stores.proofs.listing.put_counted.Statement.{statement}
 use Rattle.stores.proofs.listing.put_counted.Tie as tie
 
-put-all-requires : tie.Need-put-all-requires
-put-all-requires c κs = search needs
-
-put-decimal-requires : tie.Need-put-decimal-requires
-put-decimal-requires c κs = search needs
-
-put-requires : tie.Need-put-requires
-put-requires c κs = search needs
-
 add-result : tie.Need-add-result
 add-result c =
     let d = c .before .before .before .before .before .before in
     let a = d .before .before .before .before .before .before .before .before .args in
     omega (arith, d .put-decimal .ensures .0, decimal-short (a .n))
-
-same-length : tie.Need-same-length
-same-length c = search needs
 
 returns : tie.Need-returns
 returns c =
@@ -47,4 +35,4 @@ returns c =
 pub put-counted-spec : {M : Type 1} → statement M
 put-counted-spec =
     tie.close
-    (tie.spec put-all-requires put-decimal-requires put-requires add-result same-length returns)
+    (tie.spec (λ c κs. search needs) (λ c κs. search needs) (λ c κs. search needs) add-result (λ c. search needs) returns)

@@ -22,32 +22,8 @@ abbrev μ-loop : tie.MeasureT-loop
 loop-holds : tie.Need-loop-holds Inv-loop μ-loop
 loop-holds c = (omega arith, refl)
 
-mul-put-all : tie.Need-mul-put-all Inv-loop μ-loop
-mul-put-all c = omega arith
-
-add-put-all : tie.Need-add-put-all Inv-loop μ-loop
-add-put-all c = omega arith
-
-shared-slice-read-line-of : tie.Need-shared-slice-read-line-of Inv-loop μ-loop
-shared-slice-read-line-of c = omega arith
-
-shared-slice-read-line-of-2 : tie.Need-shared-slice-read-line-of-2 Inv-loop μ-loop
-shared-slice-read-line-of-2 c = omega arith
-
-line-of-requires : tie.Need-line-of-requires Inv-loop μ-loop
-line-of-requires c κs = search needs
-
 slice-aggregate-put-all : tie.Need-slice-aggregate-put-all Inv-loop μ-loop
 slice-aggregate-put-all c = sym (ap length (c .before .line-of .ensures))
-
-put-all-requires : tie.Need-put-all-requires Inv-loop μ-loop
-put-all-requires c κs = search needs
-
-add-i : tie.Need-add-i Inv-loop μ-loop
-add-i c = omega arith
-
-loop-less : tie.Need-loop-less Inv-loop μ-loop
-loop-less c = omega arith
 
 loop-again : tie.Need-loop-again Inv-loop μ-loop
 loop-again c =
@@ -61,12 +37,6 @@ loop-again c =
           ∙ ap (sets (sets (a .out .now) (a .at) (lines (take (l .loop .i) (a .offsets .now)) (take (l .loop .i) (a .values .now)))) (a .at + 6 * l .loop .i)) (o .line-of .ensures)
           ∙ lines-next (a .out .now) (a .at) (a .offsets .now) (a .values .now) (l .loop .i) (omega arith) (omega arith),
     )
-
-mul-result : tie.Need-mul-result Inv-loop μ-loop
-mul-result c = omega arith
-
-add-result : tie.Need-add-result Inv-loop μ-loop
-add-result c = omega arith
 
 same-length : tie.Need-same-length Inv-loop μ-loop
 same-length c =
@@ -90,17 +60,17 @@ put-lines-spec =
     Inv-loop
     μ-loop
     loop-holds
-    mul-put-all
-    add-put-all
-    shared-slice-read-line-of
-    shared-slice-read-line-of-2
-    line-of-requires
+    (λ c. omega arith)
+    (λ c. omega arith)
+    (λ c. omega arith)
+    (λ c. omega arith)
+    (λ c κs. search needs)
     slice-aggregate-put-all
-    put-all-requires
-    add-i
-    loop-less
+    (λ c κs. search needs)
+    (λ c. omega arith)
+    (λ c. omega arith)
     loop-again
-    mul-result
-    add-result
+    (λ c. omega arith)
+    (λ c. omega arith)
     same-length
     returns)

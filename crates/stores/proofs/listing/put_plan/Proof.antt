@@ -21,21 +21,6 @@ accepted c =
     let a = s .before .before .before .before .before .args in
     told-accepted (a .plan) (a .text .now) _ _ (lit≤ tt) (lit≤ tt) (s .stores .ensures .0) (s .stores .ensures .1 .0) (s .stores .ensures .1 .1) (c .count .given .1)
 
-slice-aggregate-stores : tie.Need-slice-aggregate-stores
-slice-aggregate-stores c = search needs
-
-slice-aggregate-stores-2 : tie.Need-slice-aggregate-stores-2
-slice-aggregate-stores-2 c = search needs
-
-stores-requires : tie.Need-stores-requires
-stores-requires c κs = search needs
-
-enum-known-count : tie.Need-enum-known-count
-enum-known-count c = search needs
-
-slice-aggregate-put-counted : tie.Need-slice-aggregate-put-counted
-slice-aggregate-put-counted c = search needs
-
 put-counted-requires : tie.Need-put-counted-requires
 put-counted-requires c κs = (omega (arith, accepted-few (accepted (c .before .before .before))), lit≤ tt)
 
@@ -64,15 +49,6 @@ put-lines-requires c κs =
       (omega (arith, os, accepted-few d), vs ∙ sym os),
     )
 
-enum-known-refusal : tie.Need-enum-known-refusal
-enum-known-refusal c = search needs
-
-put-refusal-requires : tie.Need-put-refusal-requires
-put-refusal-requires c κs = search needs
-
-same-length : tie.Need-same-length
-same-length c = search needs
-
 returns : tie.Need-returns
 returns c =
     let p = c .before .before in
@@ -80,9 +56,6 @@ returns c =
     let k = n .before .before .before .before in
     let a = k .before .before .before .before .before .before .before .before .before .args in
     accepted-laid (accepted k) (a .out .now) (n .put-counted .ensures .0) (n .put-counted .ensures .1) (p .put-lines .ensures .0) (p .put-lines .ensures .1)
-
-same-length-2 : tie.Need-same-length-2
-same-length-2 c = search needs
 
 returns-2 : tie.Need-returns-2
 returns-2 c =
@@ -97,20 +70,20 @@ pub put-plan-spec : {M : Type 1} → statement M
 put-plan-spec =
     tie.close
     (tie.spec
-    slice-aggregate-stores
-    slice-aggregate-stores-2
-    stores-requires
-    enum-known-count
-    slice-aggregate-put-counted
+    (λ c. search needs)
+    (λ c. search needs)
+    (λ c κs. search needs)
+    (λ c. search needs)
+    (λ c. search needs)
     put-counted-requires
     array-share-prefix-offsets
     slice-aggregate-put-lines
     array-share-prefix-values
     slice-aggregate-put-lines-2
     put-lines-requires
-    enum-known-refusal
-    put-refusal-requires
-    same-length
+    (λ c. search needs)
+    (λ c κs. search needs)
+    (λ c. search needs)
     returns
-    same-length-2
+    (λ c. search needs)
     returns-2)

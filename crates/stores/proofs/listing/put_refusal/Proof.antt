@@ -9,21 +9,6 @@ use Rattle.stores.specs.Listing.{counted, refusedWord}
 use Rattle.stores.proofs.listing.put_refusal.Statement.{statement}
 use Rattle.stores.proofs.listing.put_refusal.Tie as tie
 
-slice-aggregate-put-counted : tie.Need-slice-aggregate-put-counted
-slice-aggregate-put-counted c = search needs
-
-number-requires : tie.Need-number-requires
-number-requires c κs = search needs
-
-cast-put-counted : tie.Need-cast-put-counted
-cast-put-counted c = search needs
-
-put-counted-requires : tie.Need-put-counted-requires
-put-counted-requires c κs = search needs
-
-same-length : tie.Need-same-length
-same-length c = search needs
-
 returns : tie.Need-returns
 returns c =
     let p = c .before .before in
@@ -37,9 +22,9 @@ pub put-refusal-spec : {M : Type 1} → statement M
 put-refusal-spec =
     tie.close
     (tie.spec
-    slice-aggregate-put-counted
-    number-requires
-    cast-put-counted
-    put-counted-requires
-    same-length
+    (λ c. search needs)
+    (λ c κs. search needs)
+    (λ c. search needs)
+    (λ c κs. search needs)
+    (λ c. search needs)
     returns)

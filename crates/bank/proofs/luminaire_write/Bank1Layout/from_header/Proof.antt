@@ -4,14 +4,8 @@ use borrow.Author.Needs.{needs}
 use Rattle.bank.proofs.luminaire_write.Bank1Layout.from_header.Statement.{statement}
 use Rattle.bank.proofs.luminaire_write.Bank1Layout.from_header.Tie as tie
 
-id-in-requires : tie.Need-id-in-requires
-id-in-requires c κs = search needs
-
-first-byte-requires : tie.Need-first-byte-requires
-first-byte-requires c κs = search needs
-
 returns : tie.Need-returns
 returns c = rw (c .before .id-in .ensures, c .first-byte .ensures)
 
 pub from-header-spec : {M : Type 1} → statement M
-from-header-spec = tie.close (tie.spec id-in-requires first-byte-requires returns)
+from-header-spec = tie.close (tie.spec (λ c κs. search needs) (λ c κs. search needs) returns)

@@ -7,11 +7,8 @@ use lib.Dec.{leb}
 use Rattle.bank.proofs.luminaire_write.LuminaireField.ends_by.Statement.{statement}
 use Rattle.bank.proofs.luminaire_write.LuminaireField.ends_by.Tie as tie
 
-last-offset-requires : tie.Need-last-offset-requires
-last-offset-requires c κs = search needs
-
 returns : tie.Need-returns
 returns c = ap (λ (n : ℕ). leb n (c .before .args .last-offset)) (c .last-offset .ensures)
 
 pub ends-by-spec : {M : Type 1} → statement M
-ends-by-spec = tie.close (tie.spec last-offset-requires returns)
+ends-by-spec = tie.close (tie.spec (λ c κs. search needs) returns)

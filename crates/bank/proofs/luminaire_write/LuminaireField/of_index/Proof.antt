@@ -10,15 +10,6 @@ use Rattle.bank.specs.Fields.{luminaireFields}
 use Rattle.bank.proofs.luminaire_write.LuminaireField.of_index.Statement.{statement}
 use Rattle.bank.proofs.luminaire_write.LuminaireField.of_index.Tie as tie
 
-luminaire-fields-requires : tie.Need-luminaire-fields-requires
-luminaire-fields-requires c κs = search needs
-
-mul-t6 : tie.Need-mul-t6
-mul-t6 c = search needs
-
-array-copy-out-t9 : tie.Need-array-copy-out-t9
-array-copy-out-t9 c = search needs
-
 returns : tie.Need-returns
 unfolding luminaireFields
 returns c = rw (c .before .before .luminaire-fields .ensures) (ap optionLuminaireField (entry-in luminaireFields 18 (c .before .before .before .args .index) _ (omega arith) (lit≤ tt)))
@@ -29,4 +20,4 @@ returns-2 c = ap optionLuminaireField (entry-out luminaireFields 18 (c .before .
 
 pub of-index-spec : {M : Type 1} → statement M
 of-index-spec =
-    tie.close (tie.spec luminaire-fields-requires mul-t6 array-copy-out-t9 returns returns-2)
+    tie.close (tie.spec (λ c κs. search needs) (λ c. search needs) (λ c. search needs) returns returns-2)

@@ -5,24 +5,6 @@ use Rattle.bank.specs.Fields.{luminaireFields, placeOf}
 use Rattle.bank.proofs.luminaire_write.LuminaireField.of_text.Statement.{statement}
 use Rattle.bank.proofs.luminaire_write.LuminaireField.of_text.Tie as tie
 
-enum-told : tie.Need-enum-told
-enum-told c = search needs
-
-enum-told-2 : tie.Need-enum-told-2
-enum-told-2 c = search needs
-
-enum-told-3 : tie.Need-enum-told-3
-enum-told-3 c = search needs
-
-enum-told-4 : tie.Need-enum-told-4
-enum-told-4 c = search needs
-
-enum-told-5 : tie.Need-enum-told-5
-enum-told-5 c = search needs
-
-enum-told-6 : tie.Need-enum-told-6
-enum-told-6 c = search needs
-
 returns : tie.Need-returns
 unfolding placeOf luminaireFields
 returns c = rw (c .enum-told .given .1)
@@ -51,12 +33,12 @@ pub of-text-spec : {M : Type 1} → statement M
 of-text-spec =
     tie.close
     (tie.spec
-    enum-told
-    enum-told-2
-    enum-told-3
-    enum-told-4
-    enum-told-5
-    enum-told-6
+    (λ c. search needs)
+    (λ c. search needs)
+    (λ c. search needs)
+    (λ c. search needs)
+    (λ c. search needs)
+    (λ c. search needs)
     returns
     returns-2
     returns-3

@@ -5,42 +5,6 @@ use borrow.Author.Needs.{needs}
 use Rattle.bank.proofs.luminaire_write.NumberRule.shows_back.Statement.{statement}
 use Rattle.bank.proofs.luminaire_write.NumberRule.shows_back.Tie as tie
 
-enum-told : tie.Need-enum-told
-enum-told c = search needs
-
-enum-told-2 : tie.Need-enum-told-2
-enum-told-2 c = search needs
-
-is-between-requires : tie.Need-is-between-requires
-is-between-requires c κs = search needs
-
-enum-told-3 : tie.Need-enum-told-3
-enum-told-3 c = search needs
-
-enum-told-4 : tie.Need-enum-told-4
-enum-told-4 c = search needs
-
-is-between-requires-2 : tie.Need-is-between-requires-2
-is-between-requires-2 c κs = search needs
-
-enum-told-5 : tie.Need-enum-told-5
-enum-told-5 c = search needs
-
-enum-told-6 : tie.Need-enum-told-6
-enum-told-6 c = search needs
-
-enum-told-7 : tie.Need-enum-told-7
-enum-told-7 c = search needs
-
-enum-told-8 : tie.Need-enum-told-8
-enum-told-8 c = search needs
-
-is-distribution-type-requires : tie.Need-is-distribution-type-requires
-is-distribution-type-requires c κs = search needs
-
-enum-told-9 : tie.Need-enum-told-9
-enum-told-9 c = search needs
-
 returns : tie.Need-returns
 returns c = rw (c .enum-told .given .1)
 
@@ -72,18 +36,18 @@ pub shows-back-spec : {M : Type 1} → statement M
 shows-back-spec =
     tie.close
     (tie.spec
-    enum-told
-    enum-told-2
-    is-between-requires
-    enum-told-3
-    enum-told-4
-    is-between-requires-2
-    enum-told-5
-    enum-told-6
-    enum-told-7
-    enum-told-8
-    is-distribution-type-requires
-    enum-told-9
+    (λ c. search needs)
+    (λ c. search needs)
+    (λ c κs. search needs)
+    (λ c. search needs)
+    (λ c. search needs)
+    (λ c κs. search needs)
+    (λ c. search needs)
+    (λ c. search needs)
+    (λ c. search needs)
+    (λ c. search needs)
+    (λ c κs. search needs)
+    (λ c. search needs)
     returns
     returns-2
     returns-3

@@ -39,23 +39,11 @@ ends c =
     let r = a .self in
     omega (arith, wanted c, valid r (a .budget) (sound (told c)), chunk-len-bounded .within (r .bank) (r .next) (r .length - r .next) (a .budget))
 
-refusal-requires : tie.Need-refusal-requires
-refusal-requires c κs = search needs
-
-enum-known-refusal : tie.Need-enum-known-refusal
-enum-known-refusal c = search needs
-
 returns : tie.Need-returns
 returns c =
     let a = c .before .before .before .before .before .before .args in
     refused chunkLen (a .self) (a .budget) (now (a .chunk)) (now (a .buffer))
     (refuses-want chunkLen (a .self) (a .budget) (now (a .chunk)) (now (a .buffer)) (told-refusal _ (c .before .before .before .refusal .ensures) (c .before .refusal2 .given .1)))
-
-enum-told : tie.Need-enum-told
-enum-told c = search needs
-
-cast-if1 : tie.Need-cast-if1
-cast-if1 c = search needs
 
 returns-2 : tie.Need-returns-2
 returns-2 c =
@@ -68,12 +56,6 @@ sub-chunk-len c =
     let a = start (c .before .before .before) .args in
     valid (a .self) (a .budget) (sound (c .before .before .before)) .ahead
 
-chunk-len-requires : tie.Need-chunk-len-requires
-chunk-len-requires c κs = search needs
-
-cast-if2 : tie.Need-cast-if2
-cast-if2 c = search needs
-
 returns-3 : tie.Need-returns-3
 returns-3 c =
     let place = c .before .before .before .before .before in
@@ -81,9 +63,6 @@ returns-3 c =
     refused chunkLen (a .self) (a .budget) (now (a .chunk)) (now (a .buffer))
     (refuses-chunk chunkLen (a .self) (a .budget) (now (a .chunk)) (now (a .buffer)) (sound place) (c .before .before .before .if1 .left)
     (λ e. c .if2 .taken (e ∙ sym (c .before .chunk-len .ensures))))
-
-cast-copy-in : tie.Need-cast-copy-in
-cast-copy-in c = search needs
 
 copy-in-requires : tie.Need-copy-in-requires
 copy-in-requires c κs =
@@ -95,9 +74,6 @@ add-t13 c =
     let e = c .before .before .before .before in
     let a = start (told e) .args in
     omega (arith, ends e, e .if2 .left, valid (a .self) (a .budget) (sound (told e)))
-
-same-length : tie.Need-same-length
-same-length c = search needs
 
 returns-4 : tie.Need-returns-4
 returns-4 c =
@@ -112,18 +88,18 @@ pub accepting-spec : {M : Type 1} → statement M
 accepting-spec =
     tie.close
     (tie.spec
-    refusal-requires
-    enum-known-refusal
+    (λ c κs. search needs)
+    (λ c. search needs)
     returns
-    enum-told
-    cast-if1
+    (λ c. search needs)
+    (λ c. search needs)
     returns-2
     sub-chunk-len
-    chunk-len-requires
-    cast-if2
+    (λ c κs. search needs)
+    (λ c. search needs)
     returns-3
-    cast-copy-in
+    (λ c. search needs)
     copy-in-requires
     add-t13
-    same-length
+    (λ c. search needs)
     returns-4)

@@ -15,18 +15,6 @@ use Rattle.bank.proofs.read_out.ReadOut.wanting.Tie as tie
 sound : (c : tie.After-enum-told) → (let a = c .before .before .before .args in firstOf (wantChecks (a .self) (a .budget)) ≡ none)
 sound c = told-refusal _ (c .before .before .refusal .ensures) (c .enum-told .given .1)
 
-refusal-requires : tie.Need-refusal-requires
-refusal-requires c κs = search needs
-
-enum-known-refusal : tie.Need-enum-known-refusal
-enum-known-refusal c = search needs
-
-enum-told : tie.Need-enum-told
-enum-told c = search needs
-
-done-requires : tie.Need-done-requires
-done-requires c κs = search needs
-
 returns : tie.Need-returns
 unfolding wanting
 returns c = rw (sound (c .before .before), sym (c .before .done .ensures) ∙ c .if1 .taken)
@@ -35,9 +23,6 @@ sub-chunk-len : tie.Need-sub-chunk-len
 sub-chunk-len c =
     let a = c .before .before .before .before .before .before .args in
     valid (a .self) (a .budget) (sound (c .before .before .before)) .ahead
-
-chunk-len-requires : tie.Need-chunk-len-requires
-chunk-len-requires c κs = search needs
 
 returns-2 : tie.Need-returns-2
 unfolding wanting
@@ -51,12 +36,12 @@ pub wanting-spec : {M : Type 1} → statement M
 wanting-spec =
     tie.close
     (tie.spec
-    refusal-requires
-    enum-known-refusal
-    enum-told
-    done-requires
+    (λ c κs. search needs)
+    (λ c. search needs)
+    (λ c. search needs)
+    (λ c κs. search needs)
     returns
     sub-chunk-len
-    chunk-len-requires
+    (λ c κs. search needs)
     returns-2
     returns-3)

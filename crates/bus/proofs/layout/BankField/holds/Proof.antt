@@ -7,12 +7,6 @@ use Rattle.bus.proofs.Width.{sized}
 use Rattle.bus.proofs.layout.BankField.holds.Statement.{statement}
 use Rattle.bus.proofs.layout.BankField.holds.Tie as tie
 
-cast-start : tie.Need-cast-start
-cast-start c = search needs
-
-bytes-requires : tie.Need-bytes-requires
-bytes-requires c κs = search needs
-
 cast-result : tie.Need-cast-result
 cast-result c = omega (arith, sized (c .before .before .before .args .self .width))
 
@@ -26,4 +20,4 @@ returns-2 : tie.Need-returns-2
 returns-2 c = simp (lt-leb _ _ (c .if1 .left))
 
 pub holds-spec : {M : Type 1} → statement M
-holds-spec = tie.close (tie.spec cast-start bytes-requires cast-result add-result returns returns-2)
+holds-spec = tie.close (tie.spec (λ c. search needs) (λ c κs. search needs) cast-result add-result returns returns-2)

@@ -26,14 +26,8 @@ fits l = table-room (l .before .args .t1) _ (l .before .good .0 .1 .1 .1 .0 .1 .
 loop-holds : tie.Need-loop-holds Inv-loop μ-loop
 loop-holds c = refl
 
-mul-field : tie.Need-mul-field Inv-loop μ-loop
-mul-field c = omega arith
-
 element-copy-out-field : tie.Need-element-copy-out-field Inv-loop μ-loop
 element-copy-out-field c = omega (arith, c .before .before .pre)
-
-holds-requires : tie.Need-holds-requires Inv-loop μ-loop
-holds-requires c κs = search needs
 
 returns : tie.Need-returns Inv-loop μ-loop
 returns c =
@@ -42,12 +36,6 @@ returns c =
     ap optionBankField
     (sym (found _ (t .fields) (t .len) (l .loop .i) _ (fits l) (omega arith) (sym (c .before .holds .ensures) ∙ c .if1 .taken))
     ∙ l .loop .inv)
-
-add-i : tie.Need-add-i Inv-loop μ-loop
-add-i c = omega arith
-
-loop-less : tie.Need-loop-less Inv-loop μ-loop
-loop-less c = omega arith
 
 loop-again : tie.Need-loop-again Inv-loop μ-loop
 loop-again c =
@@ -69,11 +57,11 @@ containing-spec =
     Inv-loop
     μ-loop
     loop-holds
-    mul-field
+    (λ c. omega arith)
     element-copy-out-field
-    holds-requires
+    (λ c κs. search needs)
     returns
-    add-i
-    loop-less
+    (λ c. omega arith)
+    (λ c. omega arith)
     loop-again
     returns-2)

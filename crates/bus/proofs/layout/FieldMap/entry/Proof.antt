@@ -8,12 +8,6 @@ use Rattle.bus.proofs.Maps.{table-room}
 use Rattle.bus.proofs.layout.FieldMap.entry.Statement.{statement}
 use Rattle.bus.proofs.layout.FieldMap.entry.Tie as tie
 
-mul-t7 : tie.Need-mul-t7
-mul-t7 c = search needs
-
-element-copy-out-t10 : tie.Need-element-copy-out-t10
-element-copy-out-t10 c = search needs
-
 returns : tie.Need-returns
 returns c =
     let s = c .before .before in
@@ -24,4 +18,4 @@ returns-2 : tie.Need-returns-2
 returns-2 c = ap optionBankField (entry-out _ _ _ (c .if1 .left))
 
 pub entry-spec : {M : Type 1} → statement M
-entry-spec = tie.close (tie.spec mul-t7 element-copy-out-t10 returns returns-2)
+entry-spec = tie.close (tie.spec (λ c. search needs) (λ c. search needs) returns returns-2)

@@ -6,11 +6,8 @@ use borrow.Author.Needs.{needs}
 use Rattle.bus.proofs.part251.LuminaireFormat.has_extended_block.Statement.{statement}
 use Rattle.bus.proofs.part251.LuminaireFormat.has_extended_block.Tie as tie
 
-content-format-id-requires : tie.Need-content-format-id-requires
-content-format-id-requires c κs = search needs
-
 returns : tie.Need-returns
 returns c = ap (leb 5) (c .content-format-id .ensures)
 
 pub has-extended-block-spec : {M : Type 1} → statement M
-has-extended-block-spec = tie.close (tie.spec content-format-id-requires returns)
+has-extended-block-spec = tie.close (tie.spec (λ c κs. search needs) returns)

@@ -6,11 +6,8 @@ use borrow.Author.Needs.{needs}
 use Rattle.bus.proofs.part251.LuminaireFormat.has_light_distribution.Statement.{statement}
 use Rattle.bus.proofs.part251.LuminaireFormat.has_light_distribution.Tie as tie
 
-content-format-id-requires : tie.Need-content-format-id-requires
-content-format-id-requires c κs = search needs
-
 returns : tie.Need-returns
 returns c = ap (leb 4) (c .content-format-id .ensures)
 
 pub has-light-distribution-spec : {M : Type 1} → statement M
-has-light-distribution-spec = tie.close (tie.spec content-format-id-requires returns)
+has-light-distribution-spec = tie.close (tie.spec (λ c κs. search needs) returns)

@@ -22,9 +22,6 @@ Inv-loop self out₀ count₀ bit₀ out count bit = (bit ≤ 5) × Stored (self
 abbrev μ-loop : tie.MeasureT-loop
 μ-loop self out₀ count₀ bit₀ out count bit = 5 - bit
 
-in-range-requires : tie.Need-in-range-requires Inv-loop μ-loop
-in-range-requires c κs = search needs
-
 returns : tie.Need-returns Inv-loop μ-loop
 returns c =
     let a = c .before .before .before .args in
@@ -34,28 +31,10 @@ returns c =
 loop-holds : tie.Need-loop-holds Inv-loop μ-loop
 loop-holds c = (omega arith, nothing-stored _ _)
 
-shr-if2 : tie.Need-shr-if2 Inv-loop μ-loop
-shr-if2 c = omega arith
-
-cast-store : tie.Need-cast-store Inv-loop μ-loop
-cast-store c = omega arith
-
-add-store : tie.Need-add-store Inv-loop μ-loop
-add-store c = omega arith
-
-store-requires : tie.Need-store-requires Inv-loop μ-loop
-store-requires c κs = search needs
-
 add-count : tie.Need-add-count Inv-loop μ-loop
 add-count c =
     let l = c .before .before .before .before .before .before .before in
     omega (arith, l .loop .inv .1 .few)
-
-add-bit : tie.Need-add-bit Inv-loop μ-loop
-add-bit c = omega arith
-
-loop-less : tie.Need-loop-less Inv-loop μ-loop
-loop-less c = omega arith
 
 loop-again : tie.Need-loop-again Inv-loop μ-loop
 loop-again c =
@@ -88,16 +67,16 @@ parts-spec =
     (tie.spec
     Inv-loop
     μ-loop
-    in-range-requires
+    (λ c κs. search needs)
     returns
     loop-holds
-    shr-if2
-    cast-store
-    add-store
-    store-requires
+    (λ c. omega arith)
+    (λ c. omega arith)
+    (λ c. omega arith)
+    (λ c κs. search needs)
     add-count
-    add-bit
-    loop-less
+    (λ c. omega arith)
+    (λ c. omega arith)
     loop-again
     same-length
     returns-2)

@@ -4,15 +4,6 @@ use borrow.Author.Needs.{needs}
 use Rattle.records.proofs.identity.IdentityRead.known.Statement.{statement}
 use Rattle.records.proofs.identity.IdentityRead.known.Tie as tie
 
-enum-known-self : tie.Need-enum-known-self
-enum-known-self c = search needs
-
-enum-told : tie.Need-enum-told
-enum-told c = search needs
-
-enum-told-2 : tie.Need-enum-told-2
-enum-told-2 c = search needs
-
 returns : tie.Need-returns
 returns c = rw (c .before .self .given .1)
 
@@ -23,4 +14,4 @@ returns-3 : tie.Need-returns-3
 returns-3 c = rw (c .enum-told2 .given .1)
 
 pub known-spec : {M : Type 1} → statement M
-known-spec = tie.close (tie.spec enum-known-self enum-told enum-told-2 returns returns-2 returns-3)
+known-spec = tie.close (tie.spec (λ c. search needs) (λ c. search needs) (λ c. search needs) returns returns-2 returns-3)

@@ -10,39 +10,15 @@ use Rattle.records.proofs.identity.IdentityRead.of_bank0.Tie as tie
 returns : tie.Need-returns
 returns c = sym (no-bytes (c .before .before .args .bank .now) (omega arith))
 
-shared-slice-read-if2 : tie.Need-shared-slice-read-if2
-shared-slice-read-if2 c = search needs
-
 returns-2 : tie.Need-returns-2
 returns-2 c =
     let a = c .before .before .before .before .args in
     sym (too-short (a .bank .now) (omega arith) (omega arith))
 
-cast-from : tie.Need-cast-from
-cast-from c = search needs
-
-cast-end : tie.Need-cast-end
-cast-end c = search needs
-
-add-end : tie.Need-add-end
-add-end c = search needs
-
 returns-3 : tie.Need-returns-3
 returns-3 c =
     let a = c .before .before .before .before .before .args in
     sym (cut-short (a .bank .now) (omega arith) (omega arith) (omega arith))
-
-sub-of-window : tie.Need-sub-of-window
-sub-of-window c = search needs
-
-part-of-window-start : tie.Need-part-of-window-start
-part-of-window-start c = search needs
-
-part-of-window-end : tie.Need-part-of-window-end
-part-of-window-end c = search needs
-
-of-window-requires : tie.Need-of-window-requires
-of-window-requires c κs = search needs
 
 returns-4 : tie.Need-returns-4
 returns-4 c =
@@ -54,14 +30,14 @@ of-bank0-spec =
     tie.close
     (tie.spec
     returns
-    shared-slice-read-if2
+    (λ c. search needs)
     returns-2
-    cast-from
-    cast-end
-    add-end
+    (λ c. search needs)
+    (λ c. search needs)
+    (λ c. search needs)
     returns-3
-    sub-of-window
-    part-of-window-start
-    part-of-window-end
-    of-window-requires
+    (λ c. search needs)
+    (λ c. search needs)
+    (λ c. search needs)
+    (λ c κs. search needs)
     returns-4)

@@ -29,29 +29,8 @@ parts c =
 gtin-is : (c : tie.After-is-mask) → allFF (now (c .before .before .before .within .result)) ≡ c .is-mask .result
 gtin-is c = sym (c .is-mask .ensures)
 
-cast-if1 : tie.Need-cast-if1
-cast-if1 c = search needs
-
 returns : tie.Need-returns
 returns c = rw (ne-eqb _ 24 (c .if1 .taken))
-
-within-requires : tie.Need-within-requires
-within-requires c κs = search needs
-
-within-requires-2 : tie.Need-within-requires-2
-within-requires-2 c κs = search needs
-
-within-requires-3 : tie.Need-within-requires-3
-within-requires-3 c κs = search needs
-
-is-mask-requires : tie.Need-is-mask-requires
-is-mask-requires c κs = search needs
-
-is-mask-requires-2 : tie.Need-is-mask-requires-2
-is-mask-requires-2 c κs = search needs
-
-is-mask-requires-3 : tie.Need-is-mask-requires-3
-is-mask-requires-3 c κs = search needs
 
 returns-2 : tie.Need-returns-2
 unfolding bind
@@ -62,12 +41,6 @@ returns-2 c =
     (λ n. rw (parts (c .before .before), gtin-is (c .before) ∙ n .0 .left, sym (n .1 .ensures) ∙ n .2 .taken))
     (λ i. rw (parts (c .before .before), gtin-is (c .before) ∙ i .0 .left, sym (i .1 .ensures) ∙ i .2 .left, sym (i .3 .ensures) ∙ i .4 .taken)))
     (c .if2 .came)
-
-number-of-requires : tie.Need-number-of-requires
-number-of-requires c κs = search needs
-
-number-of-requires-2 : tie.Need-number-of-requires-2
-number-of-requires-2 c κs = search needs
 
 shared-slice-read-t14 : tie.Need-shared-slice-read-t14
 shared-slice-read-t14 c =
@@ -96,16 +69,16 @@ pub of-window-spec : {M : Type 1} → statement M
 of-window-spec =
     tie.close
     (tie.spec
-    cast-if1
+    (λ c. search needs)
     returns
-    within-requires
-    within-requires-2
-    within-requires-3
-    is-mask-requires
-    is-mask-requires-2
-    is-mask-requires-3
+    (λ c κs. search needs)
+    (λ c κs. search needs)
+    (λ c κs. search needs)
+    (λ c κs. search needs)
+    (λ c κs. search needs)
+    (λ c κs. search needs)
     returns-2
-    number-of-requires
-    number-of-requires-2
+    (λ c κs. search needs)
+    (λ c κs. search needs)
     shared-slice-read-t14
     returns-3)

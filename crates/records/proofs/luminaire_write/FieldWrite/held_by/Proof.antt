@@ -19,22 +19,10 @@ its-end c =
     let a = c .before .before .before .before .before .args in
     told-index (endOf (a .self)) (c .before .before .end .ensures) (c .end2 .given .1)
 
-end-requires : tie.Need-end-requires
-end-requires c κs = search needs
-
-enum-known-end : tie.Need-enum-known-end
-enum-known-end c = search needs
-
-enum-told : tie.Need-enum-told
-enum-told c = search needs
-
 returns : tie.Need-returns
 returns c =
     let a = c .before .before .before .before .before .args in
     sym (held-nowhere (a .self) (a .bytes .now) (a .bank .now) (told-index (endOf (a .self)) (c .before .before .end .ensures) (c .enum-told .given .1)))
-
-cast-len : tie.Need-cast-len
-cast-len c = search needs
 
 returns-2 : tie.Need-returns-2
 returns-2 c =
@@ -53,15 +41,6 @@ sub-is-same c =
     let i = c .before .before .before .before in
     let a = i .before .before .before .before .before .args in
     starts-within (a .self) (a .bytes .now) (a .bank .now) (its-end i)
-
-sub-is-same-2 : tie.Need-sub-is-same-2
-sub-is-same-2 c = search needs
-
-part-is-same-start : tie.Need-part-is-same-start
-part-is-same-start c = search needs
-
-part-is-same-end : tie.Need-part-is-same-end
-part-is-same-end c = search needs
 
 slice-aggregate-is-same : tie.Need-slice-aggregate-is-same
 slice-aggregate-is-same c =
@@ -87,17 +66,17 @@ pub held-by-spec : {M : Type 1} → statement M
 held-by-spec =
     tie.close
     (tie.spec
-    end-requires
-    enum-known-end
-    enum-told
+    (λ c κs. search needs)
+    (λ c. search needs)
+    (λ c. search needs)
     returns
-    cast-len
+    (λ c. search needs)
     returns-2
     returns-3
     sub-is-same
-    sub-is-same-2
-    part-is-same-start
-    part-is-same-end
+    (λ c. search needs)
+    (λ c. search needs)
+    (λ c. search needs)
     slice-aggregate-is-same
     is-same-requires
     returns-4)

@@ -8,20 +8,8 @@ use Rattle.records.proofs.Table.{within-bank}
 use Rattle.records.proofs.luminaire_write.FieldWrite.stage.Statement.{statement}
 use Rattle.records.proofs.luminaire_write.FieldWrite.stage.Tie as tie
 
-of-index-requires : tie.Need-of-index-requires
-of-index-requires c κs = search needs
-
-enum-known-field : tie.Need-enum-known-field
-enum-known-field c = search needs
-
-enum-told : tie.Need-enum-told
-enum-told c = search needs
-
 returns : tie.Need-returns
 returns c = rw (told-field (getElem? luminaireFields (c .before .before .before .args .self .field)) (c .before .before .of-index .ensures) (c .enum-told .given .1))
-
-cast-stage-of : tie.Need-cast-stage-of
-cast-stage-of c = search needs
 
 stage-of-requires : tie.Need-stage-of-requires
 stage-of-requires c κs =
@@ -37,10 +25,10 @@ pub stage-spec : {M : Type 1} → statement M
 stage-spec =
     tie.close
     (tie.spec
-    of-index-requires
-    enum-known-field
-    enum-told
+    (λ c κs. search needs)
+    (λ c. search needs)
+    (λ c. search needs)
     returns
-    cast-stage-of
+    (λ c. search needs)
     stage-of-requires
     returns-2)

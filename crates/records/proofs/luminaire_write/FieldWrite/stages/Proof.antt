@@ -8,23 +8,8 @@ use Rattle.bank.proofs.Options.{told-field}
 use Rattle.records.proofs.luminaire_write.FieldWrite.stages.Statement.{statement}
 use Rattle.records.proofs.luminaire_write.FieldWrite.stages.Tie as tie
 
-of-index-requires : tie.Need-of-index-requires
-of-index-requires c κs = search needs
-
-enum-known-field : tie.Need-enum-known-field
-enum-known-field c = search needs
-
-enum-told : tie.Need-enum-told
-enum-told c = search needs
-
 returns : tie.Need-returns
 returns c = rw (told-field (getElem? luminaireFields (c .before .before .before .args .self .field)) (c .before .before .of-index .ensures) (c .enum-told .given .1))
-
-cast-is-staged : tie.Need-cast-is-staged
-cast-is-staged c = search needs
-
-is-staged-requires : tie.Need-is-staged-requires
-is-staged-requires c κs = search needs
 
 returns-2 : tie.Need-returns-2
 returns-2 c =
@@ -40,11 +25,11 @@ pub stages-spec : {M : Type 1} → statement M
 stages-spec =
     tie.close
     (tie.spec
-    of-index-requires
-    enum-known-field
-    enum-told
+    (λ c κs. search needs)
+    (λ c. search needs)
+    (λ c. search needs)
     returns
-    cast-is-staged
-    is-staged-requires
+    (λ c. search needs)
+    (λ c κs. search needs)
     returns-2
     returns-3)

@@ -13,28 +13,10 @@ use Rattle.records.proofs.luminaire_write.LuminaireNumbers.of_patch.Tie
 returns : tie.Need-returns
 returns c = ap optionU32 (number-over (c .before .args .self) (c .before .args .patch) (omega arith))
 
-cast-if2 : tie.Need-cast-if2
-cast-if2 c = search needs
-
-shr-if2 : tie.Need-shr-if2
-shr-if2 c = search needs
-
 returns-2 : tie.Need-returns-2
 returns-2 c =
     let a = c .before .before .args in
     ap optionU32 (number-unset (a .self) (a .patch) (ne-eqb _ _ (c .if2 .taken)))
-
-number-values-requires : tie.Need-number-values-requires
-number-values-requires c κs = search needs
-
-cast-t11 : tie.Need-cast-t11
-cast-t11 c = search needs
-
-mul-t12 : tie.Need-mul-t12
-mul-t12 c = search needs
-
-array-read-t15 : tie.Need-array-read-t15
-array-read-t15 c = search needs
 
 returns-3 : tie.Need-returns-3
 returns-3 c =
@@ -46,11 +28,11 @@ of-patch-spec =
     tie.close
     (tie.spec
     returns
-    cast-if2
-    shr-if2
+    (λ c. search needs)
+    (λ c. search needs)
     returns-2
-    number-values-requires
-    cast-t11
-    mul-t12
-    array-read-t15
+    (λ c κs. search needs)
+    (λ c. search needs)
+    (λ c. search needs)
+    (λ c. search needs)
     returns-3)

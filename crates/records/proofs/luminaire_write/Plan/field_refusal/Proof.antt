@@ -20,30 +20,15 @@ checks c =
     let a = c .before .before .args in
     ifWanted (wantedNumber (a .self .numbers) (a .field .kind)) (numberChecks (a .self .layout) (a .field))
 
-wanted-refusal-requires : tie.Need-wanted-refusal-requires
-wanted-refusal-requires c κs = search needs
-
-enum-known-refusal : tie.Need-enum-known-refusal
-enum-known-refusal c = search needs
-
 returns : tie.Need-returns
 returns c =
     let w = c .before .before .before in
     rw (refused-first (checks w) _ (told-refusal (firstOf (checks w)) (w .wanted-refusal .ensures) (c .before .refusal .given .1)))
 
-enum-told : tie.Need-enum-told
-enum-told c = search needs
-
-is-for-requires : tie.Need-is-for-requires
-is-for-requires c κs = search needs
-
 returns-2 : tie.Need-returns-2
 returns-2 c =
     let w = c .before .before .before .before in
     rw (passed-first (checks w) _ (told-refusal (firstOf (checks w)) (w .wanted-refusal .ensures) (c .before .before .enum-told .given .1)), sym (c .before .is-for .ensures) ∙ not-true _ (c .if1 .taken)) (ap optionRefusal (sym first-none))
-
-text-refusal-requires : tie.Need-text-refusal-requires
-text-refusal-requires c κs = search needs
 
 returns-3 : tie.Need-returns-3
 returns-3 c =
@@ -54,11 +39,11 @@ pub field-refusal-spec : {M : Type 1} → statement M
 field-refusal-spec =
     tie.close
     (tie.spec
-    wanted-refusal-requires
-    enum-known-refusal
+    (λ c κs. search needs)
+    (λ c. search needs)
     returns
-    enum-told
-    is-for-requires
+    (λ c. search needs)
+    (λ c κs. search needs)
     returns-2
-    text-refusal-requires
+    (λ c κs. search needs)
     returns-3)

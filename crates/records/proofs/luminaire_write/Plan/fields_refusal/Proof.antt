@@ -23,23 +23,8 @@ Inv-loop self text table index₀ index = (index ≤ 18) × (table ≡ luminaire
 abbrev μ-loop : tie.MeasureT-loop
 μ-loop self text table index₀ index = 18 - index
 
-luminaire-fields-requires : tie.Need-luminaire-fields-requires Inv-loop μ-loop
-luminaire-fields-requires c κs = search needs
-
 loop-holds : tie.Need-loop-holds Inv-loop μ-loop
 loop-holds c = (omega arith, c .luminaire-fields .ensures, first-none)
-
-mul-field-refusal : tie.Need-mul-field-refusal Inv-loop μ-loop
-mul-field-refusal c = search needs
-
-array-copy-out-field-refusal : tie.Need-array-copy-out-field-refusal Inv-loop μ-loop
-array-copy-out-field-refusal c = search needs
-
-field-refusal-requires : tie.Need-field-refusal-requires Inv-loop μ-loop
-field-refusal-requires c κs = search needs
-
-enum-known-refusal : tie.Need-enum-known-refusal Inv-loop μ-loop
-enum-known-refusal c = search needs
 
 returns : tie.Need-returns Inv-loop μ-loop
 returns c =
@@ -47,15 +32,6 @@ returns c =
     let l = r .before .before .before in
     let a = l .before .before .before .args in
     sym (ap optionRefusal (field-refused (fieldChecks (a .self) (a .text .now)) _ (l .loop .inv .1) (l .loop .index) _ (omega arith) (l .loop .inv .2) (told-refusal _ (r .field-refusal .ensures) (c .before .refusal .given .1))))
-
-enum-told : tie.Need-enum-told Inv-loop μ-loop
-enum-told c = search needs
-
-add-index : tie.Need-add-index Inv-loop μ-loop
-add-index c = omega arith
-
-loop-less : tie.Need-loop-less Inv-loop μ-loop
-loop-less c = omega arith
 
 loop-again : tie.Need-loop-again Inv-loop μ-loop
 loop-again c =
@@ -76,15 +52,15 @@ fields-refusal-spec =
     (tie.spec
     Inv-loop
     μ-loop
-    luminaire-fields-requires
+    (λ c κs. search needs)
     loop-holds
-    mul-field-refusal
-    array-copy-out-field-refusal
-    field-refusal-requires
-    enum-known-refusal
+    (λ c. search needs)
+    (λ c. search needs)
+    (λ c κs. search needs)
+    (λ c. search needs)
     returns
-    enum-told
-    add-index
-    loop-less
+    (λ c. search needs)
+    (λ c. omega arith)
+    (λ c. omega arith)
     loop-again
     returns-2)

@@ -13,17 +13,11 @@ returns : tie.Need-returns
 unfolding firstOf planChecks
 returns c = rw (lt-ltb 2047 (c .before .before .before .args .self .numbers .«patch_mask») (omega arith))
 
-has-unknown-field-requires : tie.Need-has-unknown-field-requires
-has-unknown-field-requires c κs = search needs
-
 returns-2 : tie.Need-returns-2
 unfolding firstOf planChecks
 returns-2 c =
     let s = c .before .before .before .before .before in
     rw (le-ltb 2047 (s .args .self .numbers .«patch_mask») (omega arith), sym (c .before .has-unknown-field .ensures) ∙ c .if2 .taken)
-
-fields-refusal-requires : tie.Need-fields-refusal-requires
-fields-refusal-requires c κs = search needs
 
 returns-3 : tie.Need-returns-3
 unfolding firstOf planChecks
@@ -34,4 +28,4 @@ returns-3 c =
 pub refusal-spec : {M : Type 1} → statement M
 refusal-spec =
     tie.close
-    (tie.spec returns has-unknown-field-requires returns-2 fields-refusal-requires returns-3)
+    (tie.spec returns (λ c κs. search needs) returns-2 (λ c κs. search needs) returns-3)

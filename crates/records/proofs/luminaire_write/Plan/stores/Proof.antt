@@ -17,22 +17,10 @@ use Rattle.records.proofs.luminaire_write.Plan.stores.Tie as tie
 sound : (c : tie.After-enum-told) → (let a = c .before .before .before .before .before .before .args in firstOf (planChecks (a .self) (a .text .now)) ≡ none)
 sound c = told-refusal _ (c .before .before .refusal .ensures) (c .enum-told .given .1)
 
-refusal-requires : tie.Need-refusal-requires
-refusal-requires c κs = search needs
-
-enum-known-refusal : tie.Need-enum-known-refusal
-enum-known-refusal c = search needs
-
 returns : tie.Need-returns
 returns c =
     let a = c .before .before .before .before .before .before .before .args in
     plan-refused (a .self) (a .text .now) (a .offsets .now) (a .values .now) (told-refusal (firstOf (planChecks (a .self) (a .text .now))) (c .before .before .before .refusal .ensures) (c .before .refusal2 .given .1))
-
-enum-told : tie.Need-enum-told
-enum-told c = search needs
-
-store-count-requires : tie.Need-store-count-requires
-store-count-requires c κs = search needs
 
 returns-2 : tie.Need-returns-2
 returns-2 c =
@@ -47,9 +35,6 @@ returns-3 c =
     let a = n .before .before .before .before .before .before .before .args in
     let few = n .store-count .ensures in
     values-short (a .self) (a .text .now) (a .offsets .now) (a .values .now) (sound (n .before)) (omega arith) (omega arith)
-
-lay-stores-requires : tie.Need-lay-stores-requires
-lay-stores-requires c κs = search needs
 
 same-length : tie.Need-same-length
 same-length c =
@@ -76,14 +61,14 @@ pub stores-spec : {M : Type 1} → statement M
 stores-spec =
     tie.close
     (tie.spec
-    refusal-requires
-    enum-known-refusal
+    (λ c κs. search needs)
+    (λ c. search needs)
     returns
-    enum-told
-    store-count-requires
+    (λ c. search needs)
+    (λ c κs. search needs)
     returns-2
     returns-3
-    lay-stores-requires
+    (λ c κs. search needs)
     same-length
     same-length-2
     returns-4)

@@ -7,18 +7,6 @@ use Rattle.records.specs.Writes.{wantedNumber}
 use Rattle.records.proofs.luminaire_write.Plan.wanted_refusal.Statement.{statement}
 use Rattle.records.proofs.luminaire_write.Plan.wanted_refusal.Tie as tie
 
-of-field-requires : tie.Need-of-field-requires
-of-field-requires c κs = search needs
-
-enum-known-value : tie.Need-enum-known-value
-enum-known-value c = search needs
-
-number-refusal-requires : tie.Need-number-refusal-requires
-number-refusal-requires c κs = search needs
-
-enum-told : tie.Need-enum-told
-enum-told c = search needs
-
 returns : tie.Need-returns
 returns c =
     let w = c .before .before .before .before in
@@ -36,9 +24,9 @@ pub wanted-refusal-spec : {M : Type 1} → statement M
 wanted-refusal-spec =
     tie.close
     (tie.spec
-    of-field-requires
-    enum-known-value
-    number-refusal-requires
-    enum-told
+    (λ c κs. search needs)
+    (λ c. search needs)
+    (λ c κs. search needs)
+    (λ c. search needs)
     returns
     returns-2)
