@@ -1,5 +1,6 @@
--- Laws over the width: a value has 1 to 6 bytes, and no mask is below 7F hex.
+-- Laws over the width: a value has 1 to 6 bytes, the signed masks are those named, and no mask is below 7F hex.
 -- Assumes nothing.
+use mathlib.Core.Path.{refl}
 use mathlib.Core.Bool.{Bool, true, false, cond, _&&_}
 use Prim.Native.Nat.{_-_, _≤_}
 use native.Mathlib.Omega.{arith}
@@ -7,7 +8,7 @@ use lib.Dec.{T, leb, leb→le, lit≤}
 use lib.Pow.{pow-mono}
 use Rattle.bus.specs.declared.ValueWidth.{ValueWidth}
 use Rattle.bus.specs.declared.ValueWidth.the-variants.{U8, U16, U24, U32, U48, I8, I16, I32}
-use Rattle.bus.specs.Width.{bytesOf, bitsOf, signed, signBits, maskOf}
+use Rattle.bus.specs.Width.{bytesOf, bitsOf, signed, signBits, maskOf, SignedMasks}
 use Rattle.bus.proofs.Tests.{and-left, and-right}
 
 -- a test that holds of each width in the table holds of a width
@@ -33,6 +34,9 @@ sized w =
       some = leb→le 1 (bytesOf w) (and-left (leb 1 (bytesOf w)) (leb (bytesOf w) 6) t);
       few = leb→le (bytesOf w) 6 (and-right (leb 1 (bytesOf w)) (leb (bytesOf w) 6) t);
     }
+
+pub signed-masks : SignedMasks
+signed-masks = refl
 
 pub few-sign-bits : (w : ValueWidth) → signBits w ≤ 1
 few-sign-bits w = by (signed w)

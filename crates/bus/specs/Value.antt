@@ -4,12 +4,13 @@ use mathlib.Core.Path.{_≡_}
 use mathlib.Core.Bool.{Bool, true, false, cond}
 use mathlib.Core.List.{List, _++_}
 use mathlib.Core.Option.{Option, none, some, Option·map}
-use Prim.Native.Nat.{ℕ, _+_, _%_, _^_, _≤_}
+use Prim.Native.Nat.{ℕ, _+_, _%_, _^_, _≤_, _<_}
 use lib.Dec.{eqb, leb}
 use lib.ListN.{length, take, drop}
 use Rattle.bus.specs.declared.ValueWidth.{ValueWidth}
 use Rattle.bus.specs.declared.BankValue.{BankValue}
 use Rattle.bus.specs.declared.BankValue.the-variants.{Reading, NotImplemented, TemporarilyUnavailable}
+use Rattle.bus.specs.declared.OptionBankValue.{OptionBankValue}
 use Rattle.bus.specs.Number.{number, lowBytes}
 use Rattle.bus.specs.Width.{bytesOf, bitsOf, maskOf, tmaskOf, maxValidOf}
 
@@ -30,6 +31,16 @@ abbrev pub valueOf : BankValue → Option ℕ
 valueOf (Reading v) = some v
 valueOf NotImplemented = none
 valueOf TemporarilyUnavailable = none
+
+-- the value that was read, if one was
+abbrev pub valueIn : OptionBankValue → Option ℕ
+valueIn (OptionBankValue.Some b) = valueOf b
+valueIn OptionBankValue.None = none
+
+-- a value has no more bits than its width
+abbrev pub FitsWidth : ValueWidth → Option ℕ → Type 0
+FitsWidth w (some v) = v < 2 ^ bitsOf w
+FitsWidth w none = Unit {0}
 
 -- "not implemented"
 abbrev pub notImplemented : BankValue → Bool
@@ -74,6 +85,10 @@ pub record NoMask (w : ValueWidth) (raw v : ℕ) : Type 0 where
 
 abbrev pub NoMaskShown : Type 0
 NoMaskShown = (w : ValueWidth) (raw v : ℕ) → valueOf (classified w raw) ≡ some v → NoMask w raw v
+
+-- What is said of a raw number tells the number again: each case has its number.
+abbrev pub EveryRawKept : Type 0
+EveryRawKept = (w : ValueWidth) (raw : ℕ) → rawOf w (classified w raw) ≡ raw
 
 -- What is written into an output that is long enough reads back as its low bytes say.
 abbrev pub ReadsBack : Type 0

@@ -1,6 +1,8 @@
 -- 01, "The records", the paragraph "Masks (DiiA 252)", and "A scale is the signed meaning of its byte".
 -- Assumes nothing.
+use mathlib.Core.Path.{_≡_}
 use mathlib.Core.Bool.{Bool, true, false, cond}
+use mathlib.Core.List.{[], _∷_, map}
 use Prim.Native.Nat.{ℕ, _-_, _*_, _/_, _%_, _^_}
 use lib.Dec.{ltb}
 use lib.IntN.{ℤ, pos, _-ℤ_}
@@ -40,6 +42,10 @@ signBits w = cond (signed w) 1 0
 -- "2 to the width less 1 unsigned; 7F, 7FFF, 7FFFFFFF hex signed"
 abbrev pub maskOf : ValueWidth → ℕ
 maskOf w = 2 ^ (bitsOf w - signBits w) - 1
+
+-- The formula gives the signed masks that are named there.
+abbrev pub SignedMasks : Type 0
+SignedMasks = map maskOf (I8 ∷ I16 ∷ I32 ∷ []) ≡ 0x7F ∷ 0x7FFF ∷ 0x7FFFFFFF ∷ []
 
 -- "One less is temporarily unavailable"
 abbrev pub tmaskOf : ValueWidth → ℕ

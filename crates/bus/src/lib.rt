@@ -33,7 +33,7 @@ ghost use Prim.Native.Nat.{_*_, _^_, _<_};
 ghost use lib.ListN.{length, take};
 ghost use Rattle.bus.specs.Number.{number};
 ghost use Rattle.bus.specs.Width.{bytesOf, signed, maskOf, tmaskOf, maxValidOf, toSigned, signedMeaning};
-ghost use Rattle.bus.specs.Value.{classified, valueOf, unavailable, saturated, readAt, encoded};
+ghost use Rattle.bus.specs.Value.{classified, valueOf, valueIn, FitsWidth, unavailable, saturated, readAt, encoded};
 ghost use Rattle.bus.specs.Options.{optionU64, optionBankValue};
 
 fn power_of_two(exponent: usize) -> u64
@@ -199,7 +199,8 @@ pub fn number_of(bytes: &[u8]) -> u64
 
 // What a bank's bytes say at an offset; nothing where they are not all present.
 pub fn read_value(bytes: &[u8], offset: usize, width: ValueWidth) -> OptionBankValue
-    ensures { λ r. ⌜ r ≡ optionBankValue (readAt width offset (now (bytes .entry))) ⌝ }
+    ensures value { λ r. ⌜ r ≡ optionBankValue (readAt width offset (now (bytes .entry))) ⌝ }
+    ensures fits { λ r. ⌜ FitsWidth width (valueIn r) ⌝ }
 {
     let n = width.bytes();
     if bytes.len() < n {
