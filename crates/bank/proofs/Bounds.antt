@@ -1,13 +1,15 @@
--- The bounds of a chunk's length, and where it is the smaller of budget and remaining.
+-- The bounds of a chunk's length, where it is the smaller of budget and remaining, and that it is else the longest run of fields.
 -- Assumes nothing.
 use mathlib.Core.Path.{_≡_, refl, sym, ap, _∙_}
 use mathlib.Core.Bool.{true, false, true≢false}
 use mathlib.Core.List.{List, [], _∷_}
 use mathlib.Core.Option.{Option, some}
-use Prim.Native.Nat.{ℕ, _+_, _≤_, _<_, min, max}
+use Prim.Native.Nat.{ℕ, zero, suc, _+_, _≤_, _<_, min, max}
+use native.Mathlib.Nat.{le-of-suc-le-suc, not-suc-le-zero}
 use native.Mathlib.Omega.{arith}
-use borrow.Author.Tests.{leb-true, ne-eqb, eq-eqb, le-leb, lt-ltb}
+use borrow.Author.Tests.{leb-true, leb-false, ne-eqb, eq-eqb, le-leb, lt-ltb}
 use lib.Dec.{T, leb, ltb, ltb→lt}
+use lib.ListN.{length, take, drop, getElem?}
 use Rattle.bus.specs.declared.layout.BankField.{BankField}
 use Rattle.bus.specs.Width.{bytesOf}
 use Rattle.bus.specs.Maps.{mapAt, mapOf, mapEnd, startOf, endOf, holds, firstWith}
@@ -16,8 +18,8 @@ use Rattle.bus.proofs.Lists.{no-element}
 use Rattle.bus.proofs.Width.{sized}
 use Rattle.bus.proofs.Contiguous.{runs, here, later}
 use Rattle.bus.proofs.Maps.{every-map}
-use Rattle.bank.specs.Chunk.{fieldsFrom, withFurther, wholeFields, chunkLen, ChunkLenBounded, SmallerElsewhere}
-use Rattle.bank.proofs.Chunk.{chunk-end, chunk-smaller}
+use Rattle.bank.specs.Chunk.{fieldsFrom, withFurther, wholeFields, chunkLen, ChunkLenBounded, SmallerElsewhere, total, Longest, LongestRun}
+use Rattle.bank.proofs.Chunk.{chunk-end, chunk-smaller, chunk-whole}
 
 -- what is taken never falls, and grows within the limit
 record Grown (limit taken n : ℕ) : Type 0 where
@@ -113,3 +115,100 @@ smaller-elsewhere bank o remaining budget =
       past = λ e. chunk-end (none-starts (mapEnd (mapAt bank)) o 0 (mapOf bank) t (λ y f k. no-element (sym e ∙ f))) remaining (min budget remaining);
       exceeds = λ {x} e h k. chunk-smaller (starts o (mapOf bank) e h .1) remaining (min budget remaining) k;
     }
+
+-- ---- the longest run
+
+-- further fields, behind those taken
+record Further (limit taken : ℕ) (fs : List BankField) (len : ℕ) : Type 0 where
+  count : ℕ
+  there : count ≤ length fs
+  is-run : len ≡ taken + total (take count fs)
+  within : 1 ≤ count → len ≤ limit
+  longest : (more : ℕ) → count < more → more ≤ length fs → limit < taken + total (take more fs)
+
+module _ (limit taken : ℕ) (x : BankField) (xs : List BankField) where
+  -- the next field does not fit, and so no longer run does
+  stops : limit < taken + bytesOf (x .width) → Further limit taken (x ∷ xs) taken
+  stops h = record { count = 0; there = omega arith; is-run = omega arith; within = λ k. omega arith; longest = longer }
+    where
+      longer : (more : ℕ) → 0 < more → more ≤ length (x ∷ xs) → limit < taken + total (take more (x ∷ xs))
+      longer zero k l = absurd (not-suc-le-zero k)
+      longer (suc m) k l = omega arith
+
+  -- it fits, and is the first of the run
+  goes-on : {len : ℕ} → taken + bytesOf (x .width) ≤ limit → Further limit (taken + bytesOf (x .width)) xs len → Further limit taken (x ∷ xs) len
+  goes-on {len} h r =
+      record {
+        count = suc (r .count);
+        there = omega (arith, r .there);
+        is-run = omega (arith, r .is-run);
+        within = λ _. fits (r .count) (r .is-run) (r .within);
+        longest = longer;
+      }
+    where
+      fits : (n : ℕ) → len ≡ taken + bytesOf (x .width) + total (take n xs) → (1 ≤ n → len ≤ limit) → len ≤ limit
+      fits zero e w = omega arith
+      fits (suc n) e w = w (omega arith)
+
+      longer : (more : ℕ) → suc (r .count) < more → more ≤ length (x ∷ xs) → limit < taken + total (take more (x ∷ xs))
+      longer zero k l = absurd (not-suc-le-zero k)
+      longer (suc m) k l = omega (arith, r .longest m (le-of-suc-le-suc k) (le-of-suc-le-suc l))
+
+further : (limit taken : ℕ) (fs : List BankField) → Further limit taken fs (withFurther limit taken fs)
+unfolding withFurther
+further limit taken [] =
+    record { count = 0; there = omega arith; is-run = omega arith; within = λ k. omega arith; longest = λ more k l. omega arith }
+further limit taken (x ∷ xs) =
+    let sum = taken + bytesOf (x .width) in
+    by-test (leb sum limit)
+    (λ t. rw t (goes-on limit taken x xs (leb-true sum limit t) (further limit sum xs)))
+    (λ f. rw f (stops limit taken x xs (leb-false sum limit f)))
+
+-- the first field, and further ones behind it
+first-and-further : {len : ℕ} (limit : ℕ) (x : BankField) (xs : List BankField) → Further limit (bytesOf (x .width)) xs len → Longest limit (x ∷ xs) len
+first-and-further {len} limit x xs r =
+    record {
+      count = suc (r .count);
+      first = omega arith;
+      there = omega (arith, r .there);
+      is-run = r .is-run;
+      within = λ h. r .within (le-of-suc-le-suc h);
+      longest = longer;
+    }
+  where
+    longer : (more : ℕ) → suc (r .count) < more → more ≤ length (x ∷ xs) → limit < total (take more (x ∷ xs))
+    longer zero k l = absurd (not-suc-le-zero k)
+    longer (suc m) k l = r .longest m (le-of-suc-le-suc k) (le-of-suc-le-suc l)
+
+module _ (end : ℕ) {x : BankField} where
+  -- a field behind others starts behind their ends
+  starts-behind : (from : ℕ) (xs : List BankField) → T (runs startOf endOf end from xs) → (i : ℕ) → getElem? xs i ≡ some x → from ≤ x .offset
+  starts-behind from [] t i e = no-element e
+  starts-behind from (y ∷ ys) t zero e =
+      let same : y ≡ x = cc in
+      omega (arith, ap startOf same, here startOf endOf end from y ys t)
+  starts-behind from (y ∷ ys) t (suc i) e =
+      omega (arith, here startOf endOf end from y ys t, starts-behind (endOf y) ys (later startOf endOf end from y ys t) i e)
+
+  -- the fields from its start on are those from its place on
+  from-place : (from : ℕ) (xs : List BankField) → T (runs startOf endOf end from xs) → (i : ℕ) → getElem? xs i ≡ some x
+      → (rest : List BankField) × ((fieldsFrom (x .offset) xs ≡ x ∷ rest) × (drop i xs ≡ x ∷ rest))
+  unfolding fieldsFrom
+  from-place from [] t i e = no-element e
+  from-place from (y ∷ ys) t zero e =
+      let same : y ≡ x = cc in
+      let all : _≡_ {A = List BankField} (y ∷ ys) (x ∷ ys) = ap (λ (z : BankField). z ∷ ys) same in
+      (ys, (rw (eq-eqb (y .offset) (x .offset) (ap startOf same)) all, all))
+  from-place from (y ∷ ys) t (suc i) e =
+      let behind = later startOf endOf end from y ys t in
+      let passed : endOf y ≤ x .offset = starts-behind (endOf y) ys behind i e in
+      let further = from-place (endOf y) ys behind i e in
+      (further .0, (rw (ne-eqb (y .offset) (x .offset) (omega (arith, sized (y .width)))) (further .1 .0), further .1 .1))
+
+pub longest-run : LongestRun
+unfolding chunkLen
+longest-run bank remaining budget i x e h =
+    let limit = min budget remaining in
+    let from = from-place (mapEnd (mapAt bank)) 0 (mapOf bank) (every-map (mapAt bank)) i e in
+    rw (chunk-whole (from .1 .0) remaining limit h, from .1 .1)
+    (first-and-further limit x (from .0) (further limit (bytesOf (x .width)) (from .0)))

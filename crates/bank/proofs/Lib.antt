@@ -1,5 +1,7 @@
 pub mod Options
 pub mod Checks
+pub mod Causes
+pub mod Readings
 pub mod Header
 pub mod Texts
 pub mod Fields

@@ -3,19 +3,20 @@
 use mathlib.Core.Path.{_≡_, refl, sym, ap, _∙_}
 use mathlib.Core.Bool.{cond}
 use mathlib.Core.List.{List, [], _∷_, map}
-use Prim.Native.Nat.{ℕ, suc, _+_, _-_, _≤_, _<_, min}
+use mathlib.Core.Option.{some}
+use Prim.Native.Nat.{ℕ, zero, suc, _+_, _-_, _≤_, _<_, min}
 use native.Mathlib.Nat.{le-of-suc-le-suc, not-suc-le-zero}
 use native.Mathlib.Numerals.{add-one}
 use native.Mathlib.Omega.{arith}
 use borrow.Author.Tests.{ne-eqb}
-use lib.ListN.{length, getD, set, take, drop, length-take, length-drop, take-append-drop}
+use lib.ListN.{length, getD, getElem?, set, take, drop, length-take, length-drop, take-append-drop}
 use lib.Seq.{drop-cons, drop-drop, take-at, drop-at, take-append-seam, drop-append-seam, sets, length-sets}
 use Rattle.bus.specs.Value.{laidInto}
 use Rattle.bus.proofs.Tests.{by-test}
-use Rattle.bus.proofs.Lists.{sets-laid}
+use Rattle.bus.proofs.Lists.{no-element, sets-laid}
 use Rattle.bank.specs.declared.call_list.Called.{Called}
 use Rattle.bank.specs.Chunk.{chunkLen}
-use Rattle.bank.specs.Calls.{Call, want, accept, State, stateOf, step, after, answersOf, isWanting, callWith, callsIn, layChunks, EveryListLaid, answerNumber, calledBy}
+use Rattle.bank.specs.Calls.{Call, want, accept, State, stateOf, step, after, answersOf, isWanting, callWith, callsIn, layNumbers, layChunks, EveryListLaid, answerNumber, calledBy}
 
 -- as many elements as there are of those asked for: these are taken, and the same are left
 module _ {A : Type 0} (n : ℕ) (l : List A) where
@@ -65,13 +66,34 @@ few-calls (budget ∷ len ∷ rest) bytes h = absurd (not-suc-le-zero (le-of-suc
 pub no-call : (calls bytes : List ℕ) (i : ℕ) → length calls - i < 2 → callsIn (drop i calls) bytes ≡ []
 no-call calls bytes i h = few-calls (drop i calls) bytes (rw length-drop h)
 
+-- two numbers and those behind them
+fit-two : (a b : ℕ) (rest : List ℕ) → a ≤ 0xFFFF → b ≤ 0xFFFF → ((i n : ℕ) → getElem? rest i ≡ some n → n ≤ 0xFFFF)
+    → (i n : ℕ) → getElem? (a ∷ b ∷ rest) i ≡ some n → n ≤ 0xFFFF
+fit-two a b rest p q r zero n e =
+    let same : a ≡ n = cc in
+    omega arith
+fit-two a b rest p q r (suc zero) n e =
+    let same : b ≡ n = cc in
+    omega arith
+fit-two a b rest p q r (suc (suc i)) n e = r i n e
+
 pub every-list-laid : EveryListLaid
 unfolding callsIn
-every-list-laid [] l = refl
-every-list-laid (want budget ∷ cs) l = ap (λ (r : List Call). want budget ∷ r) (every-list-laid cs l)
+every-list-laid [] l = record { fits = λ i n e. no-element e; made = refl }
+every-list-laid (want budget ∷ cs) l =
+    let r = every-list-laid cs (l .1) in
+    record {
+      fits = fit-two budget 0xFFFF (layNumbers cs) (l .0) (omega arith) (r .fits);
+      made = ap (λ (rest : List Call). want budget ∷ rest) (r .made);
+    }
 every-list-laid (accept budget bytes ∷ cs) l =
-    rw (ne-eqb (length bytes) 0xFFFF (l .0), take-append-seam bytes (layChunks cs), drop-append-seam bytes (layChunks cs))
-    (ap (λ (r : List Call). accept budget bytes ∷ r) (every-list-laid cs (l .1)))
+    let r = every-list-laid cs (l .2) in
+    record {
+      fits = fit-two budget (length bytes) (layNumbers cs) (l .0) (omega (arith, l .1)) (r .fits);
+      made =
+          rw (ne-eqb (length bytes) 0xFFFF (omega (arith, l .1)), take-append-seam bytes (layChunks cs), drop-append-seam bytes (layChunks cs))
+          (ap (λ (rest : List Call). accept budget bytes ∷ rest) (r .made));
+    }
 
 -- ---- a run of calls
 

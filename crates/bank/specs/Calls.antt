@@ -4,9 +4,10 @@
 use mathlib.Core.Path.{_≡_}
 use mathlib.Core.Bool.{Bool, cond}
 use mathlib.Core.List.{List, [], _∷_, _++_, map}
-use Prim.Native.Nat.{ℕ, _+_, _≤_}
+use mathlib.Core.Option.{some}
+use Prim.Native.Nat.{ℕ, _+_, _≤_, _<_}
 use lib.Dec.{eqb}
-use lib.ListN.{length, take, drop}
+use lib.ListN.{length, take, drop, getElem?}
 use Rattle.bank.specs.declared.refusal.Refusal.{Refusal}
 use Rattle.bank.specs.declared.call_list.Called.{Called}
 use Rattle.bank.specs.declared.read_out.ReadOut.{ReadOut}
@@ -145,15 +146,19 @@ layChunks [] = []
 layChunks (want budget ∷ cs) = layChunks cs
 layChunks (accept budget bytes ∷ cs) = bytes ++ layChunks cs
 
--- no chunk has FFFF hex bytes
+-- the slice of numbers has 16 bits for each: a budget is at most FFFF hex, and a chunk's length below it
 abbrev pub Layable : List Call → Type 0
 Layable [] = Unit {0}
-Layable (want budget ∷ cs) = Layable cs
-Layable (accept budget bytes ∷ cs) = (length bytes ≡ 0xFFFF → ⊥) × Layable cs
+Layable (want budget ∷ cs) = (budget ≤ 0xFFFF) × Layable cs
+Layable (accept budget bytes ∷ cs) = (budget ≤ 0xFFFF) × (length bytes < 0xFFFF) × Layable cs
 
--- Every such list of calls can be laid, and is then the one that is made.
+-- Every such list of calls can be laid, in numbers of 16 bits, and is then the one that is made.
+pub record Laid (calls : List Call) : Type 0 where
+  pub fits : (i n : ℕ) → getElem? (layNumbers calls) i ≡ some n → n ≤ 0xFFFF
+  pub made : callsIn (layNumbers calls) (layChunks calls) ≡ calls
+
 abbrev pub EveryListLaid : Type 0
-EveryListLaid = (calls : List Call) → Layable calls → callsIn (layNumbers calls) (layChunks calls) ≡ calls
+EveryListLaid = (calls : List Call) → Layable calls → Laid calls
 
 -- an answer in one number: done 0, a chunk its length, a read-out its next offset, a refusal its number and 512
 abbrev pub refusedNumber : Refusal → ℕ

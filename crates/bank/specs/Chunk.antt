@@ -6,6 +6,7 @@ use mathlib.Core.List.{List, [], _∷_}
 use mathlib.Core.Option.{none, some}
 use Prim.Native.Nat.{ℕ, _+_, _≤_, _<_, min, max}
 use lib.Dec.{eqb, leb}
+use lib.ListN.{length, take, drop, getElem?}
 use Rattle.bus.specs.declared.layout.BankField.{BankField}
 use Rattle.bus.specs.Width.{bytesOf}
 use Rattle.bus.specs.Maps.{mapOf, fieldContaining}
@@ -53,3 +54,24 @@ pub record Smaller (bank o remaining budget : ℕ) : Type 0 where
 
 abbrev pub SmallerElsewhere : Type 0
 SmallerElsewhere = (bank o remaining budget : ℕ) → Smaller bank o remaining budget
+
+-- the bytes of fields that lie one behind the other
+abbrev pub total : List BankField → ℕ
+total [] = 0
+total (x ∷ xs) = bytesOf (x .width) + total xs
+
+-- "It takes whole fields from `offset` on, the first even if wider than the budget, each further one only while the sum stays
+-- within both budget and remaining": of the runs of fields from the first on, the longest within the limit, or the first field alone
+pub record Longest (limit : ℕ) (fs : List BankField) (len : ℕ) : Type 0 where
+  pub count : ℕ
+  pub first : 1 ≤ count
+  pub there : count ≤ length fs
+  pub is-run : len ≡ total (take count fs)
+  pub within : 2 ≤ count → len ≤ limit
+  pub longest : (more : ℕ) → count < more → more ≤ length fs → limit < total (take more fs)
+
+-- From the start of a field that does not exceed what remains, a chunk is that run of the fields from there.
+abbrev pub LongestRun : Type 0
+LongestRun =
+    (bank remaining budget i : ℕ) (x : BankField) → getElem? (mapOf bank) i ≡ some x → bytesOf (x .width) ≤ remaining →
+    Longest (min budget remaining) (drop i (mapOf bank)) (chunkLen bank (x .offset) remaining budget)

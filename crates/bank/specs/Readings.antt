@@ -1,6 +1,7 @@
 -- 01, "May the field be written": what a colour temperature and a distribution type say, shown or not.
 -- Assumes nothing.
-use mathlib.Core.Bool.{Bool, not, cond, _&&_}
+use mathlib.Core.Path.{_≡_}
+use mathlib.Core.Bool.{Bool, true, not, cond, _&&_}
 use Prim.Native.Nat.{ℕ}
 use lib.Dec.{eqb}
 use Rattle.bus.specs.declared.part251.LuminaireFormat.{LuminaireFormat}
@@ -20,6 +21,10 @@ cctSays CctReading.Unknown n = not (shows NumberRule.Cct V3 n) && not (eqb n 655
 
 abbrev pub cctOf : ℕ → CctReading
 cctOf n = cond (cctSays (Kelvin n) n) (Kelvin n) (cond (cctSays Part209Implemented n) Part209Implemented CctReading.Unknown)
+
+-- Every number is one that its case says.
+abbrev pub EveryTemperatureSaid : Type 0
+EveryTemperatureSaid = (n : ℕ) → cctSays (cctOf n) n ≡ true
 
 -- the number of each case of `LightDistributionType` (IEC 62386-251; the names are those of `part251.rs`)
 abbrev pub typeNumber : LightDistributionType → ℕ
@@ -42,3 +47,7 @@ abbrev pub typeOf : LuminaireFormat → ℕ → LightDistributionType
 typeOf v n =
     cond (shows NumberRule.LightDistributionType v n) (shownType n)
     (cond (eqb n (typeNumber LightDistributionType.Unknown)) LightDistributionType.Unknown (Reserved n))
+
+-- What is said of a number tells the number again.
+abbrev pub EveryTypeKept : Type 0
+EveryTypeKept = (v : LuminaireFormat) (n : ℕ) → typeNumber (typeOf v n) ≡ n

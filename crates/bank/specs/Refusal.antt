@@ -1,5 +1,6 @@
 -- 01, "Who can cause a refusal": "Each returns its number alone, with read-out and lent slices as before."
 -- Assumes nothing.
+use mathlib.Core.Path.{_≡_}
 use mathlib.Core.Bool.{Bool, cond}
 use mathlib.Core.List.{List, [], _∷_}
 use mathlib.Core.Option.{Option, none, some}
@@ -27,6 +28,10 @@ numberOf BudgetZero = 11
 numberOf ReadOutInvalid = 12
 numberOf SliceTooShort = 13
 numberOf WrongChunkLength = 14
+
+-- A number tells its cause: no two causes share one.
+abbrev pub NumberTellsCause : Type 0
+NumberTellsCause = (r s : Refusal) → numberOf r ≡ numberOf s → r ≡ s
 
 infix 70 _when_
 -- a check: its refusal, and whether it applies
