@@ -1,6 +1,6 @@
 -- Laws of checks: lists of them in two parts, and what is known where none applies.
 -- Assumes nothing.
-use mathlib.Core.Path.{_≡_, refl, sym}
+use mathlib.Core.Path.{_≡_, refl, sym, _∙_}
 use mathlib.Core.Bool.{Bool, true, false, _||_, true≢false}
 use mathlib.Core.List.{List, [], _∷_, _++_}
 use mathlib.Core.Option.{none, some}
@@ -26,6 +26,18 @@ passed-first (x ∷ xs) ys e =
     by-test (x .applies)
     (λ t. no-element (sym (rw t at e)))
     (λ t. rw t (passed-first xs ys (rw t at e)))
+
+-- where none of both parts applies, none of either does
+pub none-first : (xs ys : List Check) → firstOf (xs ++ ys) ≡ none → firstOf xs ≡ none
+unfolding firstOf
+none-first [] ys e = refl
+none-first (x ∷ xs) ys e =
+    by-test (x .applies)
+    (λ t. no-element (sym (rw t at e)))
+    (λ t. rw t (none-first xs ys (rw t at e)))
+
+pub none-second : (xs ys : List Check) → firstOf (xs ++ ys) ≡ none → firstOf ys ≡ none
+none-second xs ys e = sym (passed-first xs ys (none-first xs ys e)) ∙ e
 
 -- no check applies
 abbrev pub Passed : List Check → Type 0

@@ -1,5 +1,6 @@
 pub mod Options
 pub mod Checks
+pub mod Writable
 pub mod Causes
 pub mod Readings
 pub mod Header

@@ -24,6 +24,18 @@ module _ {A : Type 0} where
       let y : ⊥ = omega arith in
       absurd y
 
+  -- an element of a list, and none behind its last
+  pub element-in : (xs : List A) (i : ℕ) (d : A) → i < length xs → some (getD xs i d) ≡ getElem? xs i
+  element-in [] i d h = absurd (not-suc-le-zero h)
+  element-in (x ∷ xs) zero d h = refl
+  element-in (x ∷ xs) (suc i) d h = element-in xs i d (le-of-suc-le-suc h)
+
+  pub element-out : (xs : List A) (i : ℕ) → length xs ≤ i → none ≡ getElem? xs i
+  element-out [] i h = refl
+  element-out (x ∷ xs) zero h = absurd (not-suc-le-zero h)
+  element-out (x ∷ xs) (suc i) h = element-out xs i (le-of-suc-le-suc h)
+
+  -- the same of its first n
   pub entry-in : (xs : List A) (n i : ℕ) (d : A) → i < n → n ≤ length xs → some (getD xs i d) ≡ getElem? (take n xs) i
   entry-in xs zero i d h k = absurd (not-suc-le-zero h)
   entry-in [] (suc n) i d h k = absurd (not-suc-le-zero k)
@@ -93,6 +105,20 @@ laid-whole xs out h = rw (take-all (length out) xs h)
 
 pub length-laid : (xs out : List ℕ) → length (laidInto xs out) ≡ length out
 length-laid xs out = rw (length-append, length-take, length-drop) (omega arith)
+
+-- each element that there is room for is laid at its place
+pub laid-at : (xs out : List ℕ) (i : ℕ) → i < length xs → i < length out → getElem? (laidInto xs out) i ≡ getElem? xs i
+laid-at [] out i h k = absurd (not-suc-le-zero h)
+laid-at (x ∷ xs) [] i h k = absurd (not-suc-le-zero k)
+laid-at (x ∷ xs) (y ∷ out) zero h k = refl
+laid-at (x ∷ xs) (y ∷ out) (suc i) h k = laid-at xs out i (le-of-suc-le-suc h) (le-of-suc-le-suc k)
+
+-- and behind them nothing changes
+pub laid-behind : (xs out : List ℕ) (i : ℕ) → length xs ≤ i → getElem? (laidInto xs out) i ≡ getElem? out i
+laid-behind [] out i h = rw take-nil
+laid-behind (x ∷ xs) [] i h = refl
+laid-behind (x ∷ xs) (y ∷ out) zero h = absurd (not-suc-le-zero h)
+laid-behind (x ∷ xs) (y ∷ out) (suc i) h = laid-behind xs out i (le-of-suc-le-suc h)
 
 -- so a slice that they are laid into keeps its length
 pub laid-keeps : (xs out : List ℕ) {behind : List ℕ} → behind ≡ laidInto xs out → length behind ≡ length out

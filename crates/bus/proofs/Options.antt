@@ -9,7 +9,7 @@ use Rattle.bus.specs.declared.BankValue.{BankValue}
 use Rattle.bus.specs.declared.OptionBankValue.{OptionBankValue}
 use Rattle.bus.specs.declared.part251.LuminaireFormat.{LuminaireFormat}
 use Rattle.bus.specs.declared.part251.OptionLuminaireFormat.{OptionLuminaireFormat}
-use Rattle.bus.specs.Options.{optionU8, optionU64, optionBankValue, optionLuminaireFormat}
+use Rattle.bus.specs.Options.{optionU8, optionU64, u64In, optionBankValue, optionLuminaireFormat}
 
 -- of an enum that stands for an option, and the way back
 module _ {A E : Type 0} (into : Option A → E) (back : E → Option A) (at-none : back (into none) ≡ none) (at-some : (x : A) → back (into (some x)) ≡ some x) where
@@ -24,12 +24,11 @@ byteIn OptionU8.None = none
 pub told-byte : (o : Option ℕ) {e t : OptionU8} → e ≡ optionU8 o → e ≡ t → o ≡ byteIn t
 told-byte o h t = told optionU8 byteIn refl (λ n. refl) o h t
 
-abbrev numberIn : OptionU64 → Option ℕ
-numberIn (OptionU64.Some n) = some n
-numberIn OptionU64.None = none
+pub told-number : (o : Option ℕ) {e t : OptionU64} → e ≡ optionU64 o → e ≡ t → o ≡ u64In t
+told-number o h t = told optionU64 u64In refl (λ n. refl) o h t
 
-pub told-number : (o : Option ℕ) {e t : OptionU64} → e ≡ optionU64 o → e ≡ t → o ≡ numberIn t
-told-number o h t = told optionU64 numberIn refl (λ n. refl) o h t
+pub same-number : (o : Option ℕ) → o ≡ u64In (optionU64 o)
+same-number o = told-number o refl refl
 
 abbrev valueIn : OptionBankValue → Option BankValue
 valueIn (OptionBankValue.Some v) = some v

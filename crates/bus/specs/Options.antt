@@ -19,6 +19,11 @@ abbrev pub optionU64 : Option ℕ → OptionU64
 optionU64 (some n) = OptionU64.Some n
 optionU64 none = OptionU64.None
 
+-- and back
+abbrev pub u64In : OptionU64 → Option ℕ
+u64In (OptionU64.Some n) = some n
+u64In OptionU64.None = none
+
 abbrev pub optionBankValue : Option BankValue → OptionBankValue
 optionBankValue (some v) = OptionBankValue.Some v
 optionBankValue none = OptionBankValue.None

@@ -31,7 +31,6 @@ use Rattle.bank.specs.Refusal.{Check, firstOf}
 use Rattle.bank.specs.Rules.{shows}
 use Rattle.bank.specs.Fields.{luminaireFields, fieldEnd, isTextKind, fits, shownBy, acceptsNumber, acceptsText, printable, idIn}
 use Rattle.bank.specs.Writable.{formatIn, writeChecks}
-use Rattle.bank.proofs.Checks.{Passed, passed}
 use Rattle.records.specs.declared.ResultUsize.the-variants.{Ok, Err}
 use Rattle.records.specs.declared.luminaire_write.Plan.{Plan}
 use Rattle.records.specs.declared.attributes.OptionLuminaireValue.{OptionLuminaireValue}
@@ -47,7 +46,9 @@ use Rattle.records.proofs.Texts.{printable-reads-as-itself, zero-reads-
 use Rattle.records.proofs.Gathering.{each-gather, each-map}
 use Rattle.records.proofs.Table.{first-true, second-true, entry-passes, by-field, table-rises}
 use Rattle.records.proofs.Stages.{stores-of-write, stores-of-none, single-count, cut-text, short-text}
-use Rattle.records.proofs.Order.{staged, in-field, none-first, none-second, field-sound, ends-within}
+use Rattle.records.proofs.Accepted.{in-format, ends-by, accepted-number, accepted-text}
+use Rattle.records.proofs.Plans.{passed-plan}
+use Rattle.records.proofs.Order.{staged, in-field}
 use Rattle.records.proofs.Cutting.{take-again, part, length-part, length-stored, each-take, stored-elsewhere, bytes-made, leading-made, begins-zero, text-made, window, share, in-turn}
 
 -- ---- the table: every text fits its limit, so no text that is accepted is cut when it is shown
@@ -89,18 +90,6 @@ text-behind f text old h l =
 
 -- ---- an accepted plan
 
--- neither the plan nor the lent slices are refused
-pub passed-plan : (p : Plan) (text os vs : List ℕ) {count : ℕ} → planned p text os vs ≡ Ok count → firstOf (planChecks p text) ≡ none
-unfolding planned
-passed-plan p text os vs e = go (firstOf (layChecks p text os vs)) refl
-  where
-    no-error : {A : Type 0} {r : Refusal} {n : ℕ} → Err r ≡ Ok n → A
-    no-error e = let z : _≡_ {A = ℕ} 0 1 = cc in let y : ⊥ = omega arith in absurd y
-
-    go : (o : Option Refusal) → firstOf (layChecks p text os vs) ≡ o → firstOf (planChecks p text) ≡ none
-    go none f = none-first (planChecks p text) (shortSlices (storesOf p text) os vs ∷ []) f
-    go (some r) f = no-error (rw f at e)
-
 module _ (old : List ℕ) (p : Plan) (text : List ℕ) (is-old : OldBank old) (accepted : Accepted old p text) where
   sound : firstOf (planChecks p text) ≡ none
   sound = passed-plan p text (accepted .offsets) (accepted .values) (accepted .accepts)
@@ -123,34 +112,15 @@ module _ (old : List ℕ) (p : Plan) (text : List ℕ) (is-old : OldBank old) (a
     has-field : fromFormat (f .since) format ≡ true
     inside : f .offset + f .len ≤ length old
 
-  may-write : (f : LuminaireField) (later : List Check) → firstOf (writeChecks (p .layout) f ++ later) ≡ none → MayWrite f
-  may-write f later s = go planFormat refl
-    where
-      tests : Passed (writeChecks (p .layout) f)
-      tests = passed (writeChecks (p .layout) f) (none-first (writeChecks (p .layout) f) later s)
-
-      go : (o : Option LuminaireFormat) → planFormat ≡ o → MayWrite f
-      go none e = absurd (true≢false (rw e at (tests .1 .1 .1 .0)))
-      go (some v) e =
-          record {
-            format = v;
-            is-format = e;
-            has-field = not-false (fromFormat (f .since) v) (rw e at (tests .1 .1 .1 .1 .0));
-            inside = omega (arith, last-is .1 .1, ends-within (p .layout) f (last-is .0) later (last-is .1 .0) s);
-          }
-
-  -- of the plan's number for a field, and of its text
-  module _ (i : ℕ) {f : LuminaireField} (e : getElem? luminaireFields i ≡ some f) where
-    number-sound : {patch : ℕ} {r : NumberRule} {value : ℕ} → f .kind ≡ Number patch r → numberFor (p .numbers) patch ≡ some value → firstOf (numberChecks (p .layout) f value) ≡ none
-    number-sound {patch} {r} {value} k w =
-        let both = field-sound p text sound i e in
-        let first = none-first (ifWanted (wantedNumber (p .numbers) (f .kind)) (numberChecks (p .layout) f)) (cond (isFor (p .«text_field») i) (textChecks (p .layout) f text) []) both in
-        rw (ap (wantedNumber (p .numbers)) k ∙ w) at first
-
-    text-sound : isFor (p .«text_field») i ≡ true → firstOf (textChecks (p .layout) f text) ≡ none
-    text-sound w =
-        let both = field-sound p text sound i e in
-        rw w at (none-second (ifWanted (wantedNumber (p .numbers) (f .kind)) (numberChecks (p .layout) f)) (cond (isFor (p .«text_field») i) (textChecks (p .layout) f text) []) both)
+  may-write : (i : ℕ) {f : LuminaireField} {bytes : List ℕ} → getElem? luminaireFields i ≡ some f → bytesFor (f .kind) (p .numbers) (p .«text_field») text i f ≡ some bytes → MayWrite f
+  may-write i e b =
+      let in-it = in-format p text sound i e b in
+      record {
+        format = in-it .format;
+        is-format = in-it .is-format;
+        has-field = in-it .has-field;
+        inside = omega (arith, last-is .1 .1, ends-by p text sound i e b (last-is .1 .0));
+      }
 
   -- ---- the cut bank, field by field
 
@@ -206,11 +176,11 @@ module _ (old : List ℕ) (p : Plan) (text : List ℕ) (is-old : OldBank old) (a
     -- ---- a number
 
     module _ (i : ℕ) {f : LuminaireField} (e : getElem? luminaireFields i ≡ some f) (patch : ℕ) (r : NumberRule) (kind : f .kind ≡ Number patch r) (value : ℕ) (w : numberFor (p .numbers) patch ≡ some value) where
-      may-number : MayWrite f
-      may-number = may-write f _ (number-sound i e kind w)
-
       number-bytes : bytesFor (f .kind) (p .numbers) (p .«text_field») text i f ≡ some (lowBytes (f .len) value)
       number-bytes = ap (λ (k : FieldKind). bytesFor k (p .numbers) (p .«text_field») text i f) kind ∙ ap (Option·map (lowBytes (f .len))) (ap (wantedNumber (p .numbers)) kind ∙ w)
+
+      may-number : MayWrite f
+      may-number = may-write i e number-bytes
 
       number-stores : own i f ≡ singleBytes (f .offset) (lowBytes (f .len) value)
       number-stores =
@@ -255,9 +225,6 @@ module _ (old : List ℕ) (p : Plan) (text : List ℕ) (is-old : OldBank old) (a
     -- ---- a text
 
     module _ (i : ℕ) {f : LuminaireField} (e : getElem? luminaireFields i ≡ some f) (t : LuminaireTextField) (kind : f .kind ≡ Text t) (w : isFor (p .«text_field») i ≡ true) where
-      may-text : MayWrite f
-      may-text = may-write f _ (text-sound i e w)
-
       bytes : List ℕ
       bytes = terminated f text
 
@@ -268,6 +235,9 @@ module _ (old : List ℕ) (p : Plan) (text : List ℕ) (is-old : OldBank old) (a
       text-bytes : bytesFor (f .kind) (p .numbers) (p .«text_field») text i f ≡ some bytes
       unfolding bytes
       text-bytes = ap (λ (k : FieldKind). bytesFor k (p .numbers) (p .«text_field») text i f) kind ∙ (rw w)
+
+      may-text : MayWrite f
+      may-text = may-write i e text-bytes
 
       text-reading : {part-is : List ℕ} → part (f .offset) (f .len) (stored (mine i f) old) ≡ part-is → reads 0 cut i ≡ some (aText (textIn (limitFor t) (some part-is)))
       unfolding bind
@@ -309,16 +279,10 @@ module _ (old : List ℕ) (p : Plan) (text : List ℕ) (is-old : OldBank old) (a
       unfolding bind
       text-wanted = (rw e) ∙ ap (wantedOf p text i f) kind ∙ (rw w)
 
-      -- it was accepted
-      taken-text : acceptsText f text ≡ true
-      taken-text =
-          let tests = passed (textChecks (p .layout) f text) (text-sound i e w) in
-          not-false (acceptsText f text) (tests .1 .1 .1 .1 .1 .1 .0)
-
       text-whole : mine i f ≡ own i f → reads 0 cut i ≡ wanted p text i
       unfolding bytes
       text-whole all =
-          let few-and-plain = second-true (isTextKind (f .kind)) (leb (length text) (f .len) && printable text) taken-text in
+          let few-and-plain = second-true (isTextKind (f .kind)) (leb (length text) (f .len) && printable text) (accepted-text p text sound i e w) in
           let few = leb-true (length text) (f .len) (first-true (leb (length text) (f .len)) (printable text) few-and-plain) in
           let plain = second-true (leb (length text) (f .len)) (printable text) few-and-plain in
           let limit : f .len ≤ limitOf (limitFor t) = leb-true (f .len) (limitOf (limitFor t)) (ap (λ (k : FieldKind). fitsLimit k (f .len)) (sym kind) ∙ table-fits i e) in
@@ -498,9 +462,7 @@ every-wanted-number-shown old p text is-old accepted i f patch r value e kind w 
     may = may-number old p text is-old accepted 0 i e patch r kind value w
 
     takes : acceptsNumber f (may .format) value ≡ true
-    takes =
-        let tests = passed (numberChecks (p .layout) f value) (number-sound old p text is-old accepted i e kind w) in
-        not-false (acceptsNumber f (may .format) value) (rw (may .is-format) at (tests .1 .1 .1 .1 .1 .1 .0))
+    takes = accepted-number p text (sound old p text is-old accepted) i e kind w (may .is-format)
 
     shown : shows r (may .format) value ≡ true
     shown = ap (λ (k : FieldKind). shownBy k (may .format) value) (sym kind) ∙ first-true (shownBy (f .kind) (may .format) value) (fits (f .len) value) takes

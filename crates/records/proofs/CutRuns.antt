@@ -2,15 +2,15 @@
 -- Assumes nothing.
 use mathlib.Core.Path.{_≡_, refl, sym, ap, _∙_}
 use mathlib.Core.Bool.{Bool, _||_}
-use mathlib.Core.List.{List, map}
-use mathlib.Core.Option.{Option, none, some}
-use Prim.Native.Nat.{ℕ}
+use mathlib.Core.List.{List, [], _∷_, map}
+use mathlib.Core.Option.{Option, none, some, Option·map}
+use Prim.Native.Nat.{ℕ, suc, _≤_, _<_}
 use native.Mathlib.Omega.{arith}
 use borrow.Author.Tests.{le-ltb}
 use lib.Dec.{ltb}
-use lib.ListN.{length, take}
+use lib.ListN.{length, take, getElem?, length-append, length-map}
 use Rattle.bus.specs.Value.{laidInto}
-use Rattle.bus.proofs.Lists.{no-element}
+use Rattle.bus.proofs.Lists.{no-element, laid-at, laid-behind}
 use Rattle.bus.proofs.Tests.{by-test}
 use Rattle.bank.specs.declared.OptionUsize.{OptionUsize}
 use Rattle.bank.specs.declared.refusal.Refusal.{Refusal}
@@ -24,17 +24,18 @@ use Rattle.bank.specs.Refusal.{firstOf, checked}
 use Rattle.bank.specs.Fields.{fromHeader}
 use Rattle.bank.specs.Chunk.{chunkLen}
 use Rattle.bank.specs.ReadOut.{fresh, starting}
-use Rattle.bank.specs.Calls.{Call, State, stateOf, after, answersOf, answerNumber}
+use Rattle.bank.specs.Calls.{Call, State, stateOf, step, after, answersOf, answerNumber}
 use Rattle.bank.proofs.Options.{told-refusal}
 use Rattle.records.specs.declared.luminaire_write.LuminaireNumbers.{LuminaireNumbers}
 use Rattle.records.specs.declared.luminaire_write.Plan.{Plan}
 use Rattle.records.specs.Plan.{planChecks, storesOf}
 use Rattle.records.specs.Cut.{cutBank}
-use Rattle.records.specs.Claim.{begin}
+use Rattle.records.specs.Claim.{begin, CutReadsBack}
 use Rattle.records.specs.CutRun.{planFor, runChecks, cutOf, bankBehind, readBack, bufferBehind, answersBehind, EveryRunReadsBack}
+use Rattle.records.proofs.Luminaire.{element-of-map}
 use Rattle.records.proofs.Stages.{some-same}
 use Rattle.records.proofs.Cutting.{length-stored}
-use Rattle.records.proofs.CutFields.{passed-plan}
+use Rattle.records.proofs.Plans.{passed-plan}
 use Rattle.records.proofs.Claim.{cut-plan-reads-back}
 
 abbrev outIn : ResultReadOut → Option ReadOut
@@ -116,16 +117,44 @@ module _ (numbers : LuminaireNumbers) (which : OptionUsize) (text old : List ℕ
 
 -- ---- the claim
 
+answers-count : (s : State) (calls : List Call) → length (answersOf chunkLen s calls) ≡ length calls
+answers-count s [] = refl
+answers-count s (c ∷ cs) = ap suc (answers-count (step chunkLen s c) cs)
+
+-- what a list of calls lays into a slice for its answers
+module _ (s : State) (calls : List Call) where
+  abbrev numbersOf : List ℕ
+  numbersOf = map answerNumber (answersOf chunkLen s calls)
+
+  count : length numbersOf ≡ length calls
+  count = length-map (answersOf chunkLen s calls) answerNumber ∙ answers-count s calls
+
+  answer-laid : (answers : List ℕ) (i : ℕ) → i < length calls → i < length answers → getElem? (laidInto numbersOf answers) i ≡ Option·map answerNumber (getElem? (answersOf chunkLen s calls) i)
+  answer-laid answers i h room =
+      laid-at numbersOf answers i (omega (arith, count)) room ∙ element-of-map answerNumber (answersOf chunkLen s calls) i
+
+  none-laid : (answers : List ℕ) (i : ℕ) → length calls ≤ i → getElem? (laidInto numbersOf answers) i ≡ getElem? answers i
+  none-laid answers i h = laid-behind numbersOf answers i (omega (arith, count))
+
 pub every-run-reads-back : EveryRunReadsBack
 unfolding firstOf runChecks
 every-run-reads-back numbers which text old k buffer calls is-old accepted held =
+    let start = begin (cutOf numbers which text old k) buffer in
     record {
       runs = rw sound;
       leaves-cut = rw sound;
       leaves-buffer = rw sound;
-      claim = cut-plan-reads-back old (planFor numbers which text old) text k (cutOf numbers which text old k) buffer calls is-old accepted refl held;
+      lays-answers = λ answers before c behind is room.
+          (rw sound)
+          ∙ answer-laid start calls answers (length before) (omega (arith, ap length is, length-append before (c ∷ behind))) room
+          ∙ ap (Option·map answerNumber) (claimed .each-call before c behind is .answers-so);
+      leaves-answers = λ answers i far. (rw sound) ∙ none-laid start calls answers i far;
+      claim = claimed;
     }
   where
+    claimed : CutReadsBack chunkLen old (planFor numbers which text old) text k (cutOf numbers which text old k) buffer calls
+    claimed = cut-plan-reads-back old (planFor numbers which text old) text k (cutOf numbers which text old k) buffer calls is-old accepted refl held
+
     sound : firstOf (runChecks numbers which text old) ≡ none
     sound =
         rw (le-ltb 256 (length old) (is-old .few), le-ltb (length old) 0 (omega arith))

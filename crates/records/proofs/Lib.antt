@@ -5,6 +5,7 @@ pub mod Refusals
 pub mod Table
 pub mod Stages
 pub mod Stores
+pub mod Accepted
 pub mod Order
 pub mod Cutting
 pub mod Planned

@@ -30,7 +30,7 @@ use Rattle.records.specs.declared.attributes.LuminaireValue.{LuminaireVa
 use Rattle.records.specs.declared.memory_bank_parser.ParsedLuminaire.{ParsedLuminaire}
 use Rattle.records.specs.Options.{optionLuminaireValue}
 use Rattle.records.specs.Places.{fieldAt, isThere}
-use Rattle.records.specs.Luminaire.{valueIn, reading, having, formatAt, readAs, recordOf, numbersIn, textsIn, luminaire, RecordIsItsReadings, isShown, inFormat, EveryFieldShownExactly}
+use Rattle.records.specs.Luminaire.{valueIn, reading, having, formatAt, readAs, recordOf, numbersIn, textsIn, luminaire, RecordIsItsReadings, isPresent, inFormat, EveryFieldShownExactly}
 use Rattle.records.specs.Steps.{plainValue, valueAt}
 
 -- every format has what format 3 has
@@ -89,7 +89,7 @@ module _ (start : ℕ) (bytes : List ℕ) where
   told-id {t = t} h e f = ap (recordIn t) (sym f) ∙ ap (λ (id : OptionU16). recordIn id (formatIn id)) (sym e ∙ h)
 
 -- an element of a list's image
-element-of-map : {A B : Type 0} (g : A → B) (xs : List A) (i : ℕ) → getElem? (map g xs) i ≡ Option·map g (getElem? xs i)
+pub element-of-map : {A B : Type 0} (g : A → B) (xs : List A) (i : ℕ) → getElem? (map g xs) i ≡ Option·map g (getElem? xs i)
 element-of-map g [] i = refl
 element-of-map g (x ∷ xs) zero = refl
 element-of-map g (x ∷ xs) (suc i) = element-of-map g xs i
@@ -100,21 +100,21 @@ record-is-its-readings start bytes i = element-of-map (readAs start bytes (forma
 
 -- a field is shown where its format has it, if it is there
 shown : (f : LuminaireField) (kind : FieldKind) (format : Option LuminaireFormat) (bytes : Option (List ℕ))
-    → isShown (reading kind (having f format) bytes) ≡ ((readOnly kind || inFormat f format) && isThere bytes)
+    → isPresent (reading kind (having f format) bytes) ≡ ((readOnly kind || inFormat f format) && isThere bytes)
 unfolding bind
 shown f LayoutId format none = refl
 shown f LayoutId format (some bs) = refl
 shown f (Number patch r) none bytes = refl
 shown f (Number patch r) (some v) bytes = by (fromFormat (f .since) v) bytes
   where
-    by : (has : Bool) (bytes : Option (List ℕ)) → isShown (reading (Number patch r) (cond has (some v) none) bytes) ≡ (has && isThere bytes)
+    by : (has : Bool) (bytes : Option (List ℕ)) → isPresent (reading (Number patch r) (cond has (some v) none) bytes) ≡ (has && isThere bytes)
     by true none = refl
     by true (some bs) = refl
     by false bytes = refl
 shown f (Text t) none bytes = refl
 shown f (Text t) (some v) bytes = by (fromFormat (f .since) v) bytes
   where
-    by : (has : Bool) (bytes : Option (List ℕ)) → isShown (reading (Text t) (cond has (some v) none) bytes) ≡ (has && isThere bytes)
+    by : (has : Bool) (bytes : Option (List ℕ)) → isPresent (reading (Text t) (cond has (some v) none) bytes) ≡ (has && isThere bytes)
     by true none = refl
     by true (some bs) = refl
     by false bytes = refl

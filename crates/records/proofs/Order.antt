@@ -29,6 +29,7 @@ use Rattle.records.specs.Plan.{numberChecks, textChecks, ifWanted, field
 use Rattle.records.proofs.Gathering.{each-flat, each-gather, each-map}
 use Rattle.records.proofs.Table.{by-field, table-rises, Sorted}
 use Rattle.records.proofs.Stages.{bytes-fit, stores-of-write, StageIn, stages-in}
+use Rattle.records.proofs.Accepted.{ends-by}
 
 -- ---- the stores of a write
 
@@ -51,7 +52,7 @@ module _ (place : ℕ) (f : LuminaireField) where
   inside : (bytes : List ℕ) → length bytes ≤ f .len → Each (InField f) (writeStores (written place f bytes))
   inside bytes h =
       each-flat (InField f) (stageStores bytes) (stagesOf place f (length bytes))
-      (each-map (StageIn place f bytes h) (λ (s : WriteStage). Each (InField f) (stageStores bytes s)) (λ s w. single-in (s .offset) (partOf (s .part) bytes (0 ∷ [])) (w .0) (w .1)) (stagesOf place f (length bytes)) (stages-in place f bytes h))
+      (each-map (StageIn place f bytes h) (λ (s : WriteStage). Each (InField f) (stageStores bytes s)) (λ s w. single-in (s .offset) (partOf (s .part) bytes) (w .0) (w .1)) (stagesOf place f (length bytes)) (stages-in place f bytes h))
 
 pub every-write-staged : EveryWriteStaged
 every-write-staged place f = staged place f
@@ -109,58 +110,18 @@ every-plan-in-order n which text = plan-in-order n which text
 
 -- ---- an accepted plan
 
-pub none-first : (xs ys : List Check) → firstOf (xs ++ ys) ≡ none → firstOf xs ≡ none
-unfolding firstOf
-none-first [] ys e = refl
-none-first (x ∷ xs) ys e =
-    by-test (x .applies)
-    (λ t. no-element (sym (rw t at e)))
-    (λ t. rw t (none-first xs ys (rw t at e)))
-
-pub none-second : (xs ys : List Check) → firstOf (xs ++ ys) ≡ none → firstOf ys ≡ none
-none-second xs ys e = sym (passed-first xs ys (none-first xs ys e)) ∙ e
-
-none-gather : (g : ℕ → LuminaireField → List Check) (fs : List LuminaireField) → firstOf (gather g fs) ≡ none → (i : ℕ) {f : LuminaireField} → getElem? fs i ≡ some f → firstOf (g i f) ≡ none
-none-gather g [] e i m = no-element m
-none-gather g (h ∷ fs) e zero m = subst (λ (f : LuminaireField). firstOf (g 0 f) ≡ none) (Option·some-injective _ _ m) (none-first (g 0 h) (gather (λ i. g (suc i)) fs) e)
-none-gather g (h ∷ fs) e (suc i) m = none-gather (λ i. g (suc i)) fs (none-second (g 0 h) (gather (λ i. g (suc i)) fs) e) i m
-
--- each field's checks
-pub field-sound : (p : Plan) (text : List ℕ) → firstOf (planChecks p text) ≡ none → (i : ℕ) {f : LuminaireField} → getElem? luminaireFields i ≡ some f → firstOf (fieldChecks p text i f) ≡ none
-unfolding planChecks
-field-sound p text s i m = none-gather (fieldChecks p text) luminaireFields (none-second (unknownBits p ∷ unknownField p ∷ []) (gather (fieldChecks p text) luminaireFields) s) i m
-
--- a field that may be written ends by the last offset
-pub ends-within : (l : Bank1Layout) (f : LuminaireField) (last : ℕ) (later : List Check) → l .«last_offset» ≡ OptionU8.Some last → firstOf (writeChecks l f ++ later) ≡ none → fieldEnd f - 1 ≤ last
-ends-within l f last later e s =
-    let p = passed (writeChecks l f) (none-first (writeChecks l f) later s) in
-    leb-true (fieldEnd f - 1) last (not-false (leb (fieldEnd f - 1) last) (rw e at (p .1 .1 .1 .1 .1 .0)))
-
 module _ (p : Plan) (text : List ℕ) (last : ℕ) (known : p .layout .«last_offset» ≡ OptionU8.Some last) where
-  -- a field that has a write passed its checks
-  write-ends : (kind : FieldKind) (i : ℕ) (f : LuminaireField) {bytes : List ℕ} → f .kind ≡ kind → firstOf (fieldChecks p text i f) ≡ none → bytesFor kind (p .numbers) (p .«text_field») text i f ≡ some bytes → fieldEnd f - 1 ≤ last
-  write-ends LayoutId i f k s e = no-element e
-  write-ends (Number patch r) i f k s e = go (wantedNumber (p .numbers) (f .kind)) refl
-    where
-      go : (o : Option ℕ) → wantedNumber (p .numbers) (f .kind) ≡ o → fieldEnd f - 1 ≤ last
-      go none w = no-element (rw w at e)
-      go (some v) w = ends-within (p .layout) f last _ known (none-first (numberChecks (p .layout) f v) (cond (isFor (p .«text_field») i) (textChecks (p .layout) f text) []) (rw w at s))
-  write-ends (Text t) i f k s e =
-      by-test (isFor (p .«text_field») i)
-      (λ w. ends-within (p .layout) f last _ known (rw w at (none-second (ifWanted (wantedNumber (p .numbers) (f .kind)) (numberChecks (p .layout) f)) (cond (isFor (p .«text_field») i) (textChecks (p .layout) f text) []) s)))
-      (λ w. no-element (rw w at e))
-
-  field-in-bank : (i : ℕ) (f : LuminaireField) → firstOf (fieldChecks p text i f) ≡ none → (o : Option (List ℕ)) → bytesFor (f .kind) (p .numbers) (p .«text_field») text i f ≡ o → Each (λ (s : Store). s .offset ≤ last) (storesAt (p .numbers) (p .«text_field») text i f)
-  field-in-bank i f s none e = rw e tt
-  field-in-bank i f s (some bytes) e =
-      let end = write-ends (f .kind) i f refl s e in
+  field-in-bank : firstOf (planChecks p text) ≡ none → (i : ℕ) (f : LuminaireField) → getElem? luminaireFields i ≡ some f → (o : Option (List ℕ)) → bytesFor (f .kind) (p .numbers) (p .«text_field») text i f ≡ o → Each (λ (s : Store). s .offset ≤ last) (storesAt (p .numbers) (p .«text_field») text i f)
+  field-in-bank sound i f e none b = rw b tt
+  field-in-bank sound i f e (some bytes) b =
+      let end = ends-by p text sound i e b known in
       each-map (InField f) (λ (s : Store). s .offset ≤ last) (λ s h. omega (arith, h .0, h .1, end)) (storesAt (p .numbers) (p .«text_field») text i f) (in-field (p .numbers) (p .«text_field») text i f)
 
   stores-in-bank : firstOf (planChecks p text) ≡ none → Each (λ (s : Store). s .offset ≤ last) (storesOf p text)
   stores-in-bank s =
       subst (Each (λ (s : Store). s .offset ≤ last)) (sym (by-field (p .numbers) (p .«text_field») text))
       (each-gather (λ (s : Store). s .offset ≤ last) (storesAt (p .numbers) (p .«text_field») text) luminaireFields
-      (λ i f e. field-in-bank i f (field-sound p text s i e) (bytesFor (f .kind) (p .numbers) (p .«text_field») text i f) refl))
+      (λ i f e. field-in-bank s i f e (bytesFor (f .kind) (p .numbers) (p .«text_field») text i f) refl))
 
 pub every-store-in-bank : EveryStoreInBank
 every-store-in-bank p text last s known = stores-in-bank p text last known s

@@ -1,7 +1,7 @@
 -- Laws of the checks of a plan: what `check_writable` tells of them, field by field.
 -- Assumes nothing.
-use mathlib.Core.Path.{_≡_, refl, ap, _∙_, subst}
-use mathlib.Core.Bool.{Bool, true, false, not, true≢false}
+use mathlib.Core.Path.{_≡_, refl, sym, ap, _∙_, subst}
+use mathlib.Core.Bool.{Bool, true, false, not}
 use mathlib.Core.List.{List, [], _∷_, _++_}
 use mathlib.Core.Option.{Option, none, some}
 use Prim.Native.Nat.{ℕ, _+_, _≤_, _<_}
@@ -17,7 +17,9 @@ use Rattle.bank.specs.declared.luminaire_write.ResultLuminaireFormat.the-varian
 use Rattle.bank.specs.Refusal.{Check, _when_, firstOf}
 use Rattle.bank.specs.Fields.{luminaireFields, acceptsNumber}
 use Rattle.bank.specs.Writable.{formatIn, writeChecks, checkWritable}
-use Rattle.bank.proofs.Checks.{refused-first, passed-first, passed}
+use Rattle.bus.proofs.Lists.{no-element}
+use Rattle.bank.proofs.Checks.{refused-first, passed-first}
+use Rattle.bank.proofs.Writable.{in-format}
 use Rattle.records.specs.Writes.{gather}
 use Rattle.records.specs.Plan.{rejects}
 use Rattle.records.proofs.Gathering.{gather-next, gather-front}
@@ -46,7 +48,7 @@ module _ (l : Bank1Layout) (f : LuminaireField) where
   unfolding checkWritable
   told-of (some r) m p q = rw p p
   told-of none (some v) p q = rw (p, q) (p, q)
-  told-of none none p q = absurd (true≢false (rw q at (passed (writeChecks l f) p .1 .1 .1 .0)))
+  told-of none none p q = no-element (sym q ∙ in-format l f p .is-format)
 
   pub writable-told : {t : ResultLuminaireFormat} → checkWritable l f ≡ t → Told t
   writable-told e = subst Told e (told-of (firstOf (writeChecks l f)) (formatIn (l .«content_format_id»)) refl refl)

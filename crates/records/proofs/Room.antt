@@ -5,7 +5,7 @@ use mathlib.Core.List.{List, [], _∷_, map}
 use mathlib.Core.Option.{Option, none, some}
 use Prim.Native.Nat.{ℕ, zero, suc, _+_, _≤_, min}
 use native.Mathlib.Omega.{arith}
-use lib.ListN.{length, take, length-append, length-take, length-map}
+use lib.ListN.{length, take, length-append, length-take}
 use lib.Seq.{take-take}
 use Rattle.bus.specs.Value.{laidInto}
 use Rattle.bus.proofs.Lists.{no-element, sets-laid}
@@ -26,15 +26,9 @@ use Rattle.records.specs.Cut.{stored, cutBank, storedAt}
 use Rattle.records.proofs.Laying.{front-laid}
 use Rattle.records.proofs.Table.{by-field}
 use Rattle.records.proofs.Stages.{some-same, stores-few}
+use Rattle.records.proofs.Stores.{offsets-count, values-count}
 use Rattle.records.proofs.Plans.{plan-refused, plan-accepted}
 use Rattle.records.proofs.Cutting.{members-stored}
-
--- as many offsets as stores, and as many values
-pub offsets-count : (ss : List Store) → length (offsetsOf ss) ≡ length ss
-offsets-count ss = length-map ss (λ (s : Store). s .offset)
-
-pub values-count : (ss : List Store) → length (valuesOf ss) ≡ length ss
-values-count ss = length-map ss (λ (s : Store). s .value)
 
 -- so many stores at most
 abbrev mostOf : List LuminaireField → ℕ

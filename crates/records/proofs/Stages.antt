@@ -120,7 +120,7 @@ single-count o (b ∷ bs) = ap suc (single-count (suc o) bs)
 -- each stage stands in its field, and so in a bank
 module _ (index : ℕ) (f : LuminaireField) (bytes : List ℕ) (fits : length bytes ≤ f .len) where
   abbrev pub StageIn : WriteStage → Type 0
-  StageIn s = (f .offset ≤ s .offset) × (s .offset + length (partOf (s .part) bytes (0 ∷ [])) ≤ fieldEnd f)
+  StageIn s = (f .offset ≤ s .offset) × (s .offset + length (partOf (s .part) bytes) ≤ fieldEnd f)
 
   pub stages-in : Each StageIn (stagesOf index f (length bytes))
   stages-in =
@@ -130,7 +130,7 @@ module _ (index : ℕ) (f : LuminaireField) (bytes : List ℕ) (fits : length by
       rw t (simp (length-take, length-drop) (omega arith)))
       (λ t. rw t (omega arith))
 
-  pub stage-fits : {s : WriteStage} (k : ℕ) → WithinBank f → getElem? (stagesOf index f (length bytes)) k ≡ some s → s .offset + length (partOf (s .part) bytes (0 ∷ [])) ≤ 256
+  pub stage-fits : {s : WriteStage} (k : ℕ) → WithinBank f → getElem? (stagesOf index f (length bytes)) k ≡ some s → s .offset + length (partOf (s .part) bytes) ≤ 256
   stage-fits k within e = omega (arith, within .ends, each-at StageIn (stagesOf index f (length bytes)) k stages-in e .1)
 
 -- at most three stages

@@ -19,8 +19,15 @@ use Rattle.records.proofs.Gathering.{flat-next, flat-done, gather-next}
 use Rattle.records.proofs.Table.{table-length, table-within}
 use Rattle.records.proofs.Stages.{single-count, stores-few}
 
+-- as many offsets as stores, and as many values
+pub offsets-count : (ss : List Store) → length (offsetsOf ss) ≡ length ss
+offsets-count ss = length-map ss (λ (s : Store). s .offset)
+
+pub values-count : (ss : List Store) → length (valuesOf ss) ≡ length ss
+values-count ss = length-map ss (λ (s : Store). s .value)
+
 pub offsets-length : (o : ℕ) (bs : List ℕ) → length (offsetsOf (singleBytes o bs)) ≡ length bs
-offsets-length o bs = length-map (singleBytes o bs) (λ (s : Store). s .offset) ∙ single-count o bs
+offsets-length o bs = offsets-count (singleBytes o bs) ∙ single-count o bs
 
 pub offsets-at : (o : ℕ) (bs : List ℕ) (i : ℕ) → i < length bs → getD (offsetsOf (singleBytes o bs)) i 0 ≡ o + i
 offsets-at o [] i h = absurd (not-suc-le-zero h)

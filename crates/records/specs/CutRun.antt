@@ -2,9 +2,10 @@
 -- the call leaves and answers is what the claim speaks of.
 -- Assumes nothing.
 use mathlib.Core.Path.{_≡_}
-use mathlib.Core.List.{List, _∷_, map}
-use Prim.Native.Nat.{ℕ}
-use lib.ListN.{length}
+use mathlib.Core.List.{List, _∷_, _++_, map}
+use mathlib.Core.Option.{some}
+use Prim.Native.Nat.{ℕ, _≤_, _<_}
+use lib.ListN.{length, getElem?}
 use Rattle.bus.specs.Value.{laidInto}
 use Rattle.bank.specs.declared.OptionUsize.{OptionUsize}
 use Rattle.bank.specs.declared.read_out.ResultReadOut.{ResultReadOut}
@@ -12,12 +13,12 @@ use Rattle.bank.specs.Refusal.{Check, checked}
 use Rattle.bank.specs.Fields.{fromHeader}
 use Rattle.bank.specs.Chunk.{chunkLen}
 use Rattle.bank.specs.ReadOut.{fresh, invalid}
-use Rattle.bank.specs.Calls.{Call, State, answersOf, after, HoldsChunks, answerNumber}
+use Rattle.bank.specs.Calls.{Call, State, stateOf, answer, answersOf, after, HoldsChunks, answerNumber}
 use Rattle.records.specs.declared.luminaire_write.LuminaireNumbers.{LuminaireNumbers}
 use Rattle.records.specs.declared.luminaire_write.Plan.{Plan}
 use Rattle.records.specs.Plan.{planChecks, storesOf}
 use Rattle.records.specs.Cut.{cutBank}
-use Rattle.records.specs.Claim.{OldBank, Accepted, begin, CutReadsBack}
+use Rattle.records.specs.Claim.{OldBank, Accepted, begin, standing, CutReadsBack}
 
 module _ (numbers : LuminaireNumbers) (which : OptionUsize) (text : List ℕ) (old : List ℕ) where
   -- "the plan's layout is `Bank1Layout::from_header` of it"
@@ -57,6 +58,14 @@ pub record RunReadsBack (numbers : LuminaireNumbers) (which : OptionUsize) (text
   pub runs : readBack numbers which text old k buffer calls ≡ ResultReadOut.Ok (stateBehind numbers which text old k buffer calls .out)
   pub leaves-cut : bankBehind numbers which text old k ≡ cutOf numbers which text old k
   pub leaves-buffer : bufferBehind numbers which text old k buffer calls ≡ stateBehind numbers which text old k buffer calls .buffer
+  -- its answers begin with those of the claim's conclusion 1: each call answers "what "The read-out" above gives" at the sum of the
+  -- accepted chunks' lengths
+  pub lays-answers :
+      (answers : List ℕ) (before : List Call) (c : Call) (behind : List Call) → calls ≡ before ++ c ∷ behind → length before < length answers →
+      getElem? (answersBehind numbers which text old k buffer calls answers) (length before)
+      ≡ some (answerNumber (answer chunkLen (stateOf (standing chunkLen (cutOf numbers which text old k) buffer before) buffer) c))
+  pub leaves-answers :
+      (answers : List ℕ) (i : ℕ) → length calls ≤ i → getElem? (answersBehind numbers which text old k buffer calls answers) i ≡ getElem? answers i
   pub claim : CutReadsBack chunkLen old (planFor numbers which text old) text k (cutOf numbers which text old k) buffer calls
 
 abbrev pub EveryRunReadsBack : Type 0

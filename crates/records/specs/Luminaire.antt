@@ -176,22 +176,22 @@ membersOf r =
 abbrev pub RecordIsItsReadings : Type 0
 RecordIsItsReadings = (start : ℕ) (bytes : List ℕ) (i : ℕ) → getElem? (membersOf (luminaire start bytes)) i ≡ reads start bytes i
 
--- whether a reading shows anything
-abbrev pub isShown : Reading → Bool
-isShown (anId OptionU16.None) = false
-isShown (anId (OptionU16.Some id)) = true
-isShown (aNumber OptionLuminaireValue.None) = false
-isShown (aNumber (OptionLuminaireValue.Some v)) = true
-isShown (aText t) = t .present
+-- whether a reading is present
+abbrev pub isPresent : Reading → Bool
+isPresent (anId OptionU16.None) = false
+isPresent (anId (OptionU16.Some id)) = true
+isPresent (aNumber OptionLuminaireValue.None) = false
+isPresent (aNumber (OptionLuminaireValue.Some v)) = true
+isPresent (aText t) = t .present
 
 abbrev pub inFormat : LuminaireField → Option LuminaireFormat → Bool
 inFormat f none = false
 inFormat f (some v) = fromFormat (f .since) v
 
--- "holds only the id if that isn't 3 to 5", and "a field not wholly present is absent": a field is shown exactly where it is
--- present and, the id aside, in the bank's format.
+-- "holds only the id if that isn't 3 to 5", and "a field not wholly present is absent": a field is present in the record exactly
+-- where it is wholly present in the bytes and, the id aside, in the bank's format.
 abbrev pub EveryFieldShownExactly : Type 0
 EveryFieldShownExactly =
     (start : ℕ) (bytes : List ℕ) (f : LuminaireField) →
-    isShown (readAs start bytes (formatAt start bytes) f)
+    isPresent (readAs start bytes (formatAt start bytes) f)
     ≡ ((readOnly (f .kind) || inFormat f (formatAt start bytes)) && isThere (fieldAt start bytes (f .offset) (f .len)))

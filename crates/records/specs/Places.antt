@@ -12,11 +12,12 @@ use lib.Signed.{leZ}
 use Rattle.bus.specs.declared.OptionU64.{OptionU64}
 use Rattle.bus.specs.declared.ValueWidth.{ValueWidth}
 use Rattle.bus.specs.declared.BankValue.{BankValue}
-use Rattle.bus.specs.Options.{optionU64}
+use Rattle.bus.specs.Options.{optionU64, u64In}
 use Rattle.bus.specs.Number.{number}
 use Rattle.bus.specs.Width.{bytesOf, signedMeaning}
 use Rattle.bus.specs.Value.{classified, valueOf, notImplemented, unavailable, saturated, bytesAt, NoMask}
 use Rattle.records.specs.declared.attributes.BankReading.{BankReading}
+use Rattle.records.specs.declared.attributes.OptionBankReading.{OptionBankReading}
 
 -- "The parsers of 000 take bytes and a start offset; a field not wholly present is absent": the bytes of a field, so many
 -- from an offset of its bank on
@@ -56,6 +57,11 @@ readingOf w v =
 -- the reading at an offset and a width
 abbrev pub readingAt : ℕ → List ℕ → ℕ → ValueWidth → Option BankReading
 readingAt start bytes o w = Option·map (λ bs. readingOf w (classified w (number bs))) (fieldAt start bytes o (bytesOf w))
+
+-- the value of a reading that is there and has one
+abbrev pub valueRead : OptionBankReading → Option ℕ
+valueRead (OptionBankReading.Some r) = u64In (r .value)
+valueRead OptionBankReading.None = none
 
 -- "A scale is the signed meaning of its byte, present only from −6 to 6."
 abbrev pub isScale : ℤ → Bool

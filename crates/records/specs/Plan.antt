@@ -6,7 +6,7 @@ use mathlib.Core.List.{List, [], _∷_, _++_}
 use mathlib.Core.Option.{Option, none, some}
 use Prim.Native.Nat.{ℕ, _≤_}
 use lib.Dec.{ltb}
-use lib.ListN.{length}
+use lib.ListN.{length, drop}
 use Rattle.bus.specs.declared.OptionU8.{OptionU8}
 use Rattle.bus.specs.declared.part251.LuminaireFormat.{LuminaireFormat}
 use Rattle.bus.specs.Value.{laidInto}
@@ -82,6 +82,24 @@ offsetsAfter p text os vs = checked (layChecks p text os vs) (λ _. os) (laidInt
 
 unfoldable pub valuesAfter : Plan → List ℕ → List ℕ → List ℕ → List ℕ
 valuesAfter p text os vs = checked (layChecks p text os vs) (λ _. vs) (laidInto (valuesOf (storesOf p text)) vs)
+
+-- neither the plan nor a slice is refused
+pub record Acceptable (p : Plan) (text os vs : List ℕ) : Type 0 where
+  pub allowed : firstOf (planChecks p text) ≡ none
+  pub offsets-room : length (storesOf p text) ≤ length os
+  pub values-room : length (storesOf p text) ≤ length vs
+
+-- A plan is accepted exactly there, and the slices then begin with its stores.
+pub record TakenExactly (p : Plan) (text os vs : List ℕ) : Type 0 where
+  pub accepted : Acceptable p text os vs → planned p text os vs ≡ ResultUsize.Ok (length (storesOf p text))
+  pub offsets : Acceptable p text os vs → offsetsAfter p text os vs ≡ offsetsOf (storesOf p text) ++ drop (length (storesOf p text)) os
+  pub values : Acceptable p text os vs → valuesAfter p text os vs ≡ valuesOf (storesOf p text) ++ drop (length (storesOf p text)) vs
+  pub only : {count : ℕ} → planned p text os vs ≡ ResultUsize.Ok count → Acceptable p text os vs
+  -- "A plan for no field is accepted and has 0 stores."
+  pub no-field : p .numbers .«patch_mask» ≡ 0 → p .«text_field» ≡ OptionUsize.None → planned p text os vs ≡ ResultUsize.Ok 0
+
+abbrev pub PlanTakenExactly : Type 0
+PlanTakenExactly = (p : Plan) (text os vs : List ℕ) → TakenExactly p text os vs
 
 -- No store of an accepted plan is past the last offset.
 abbrev pub EveryStoreInBank : Type 0

@@ -176,12 +176,12 @@ stagesIn (some f) w = stagesOf (w .field) f (w .len)
 abbrev pub stagesAt : FieldWrite → List WriteStage
 stagesAt w = stagesIn (getElem? luminaireFields (w .field)) w
 
--- which bytes a stage has, of its write's and of a 00
-abbrev pub partOf : StagePart → List ℕ → List ℕ → List ℕ
-partOf Terminator bytes zero = zero
-partOf Whole bytes zero = bytes
-partOf Tail bytes zero = drop 1 bytes
-partOf Head bytes zero = take 1 bytes
+-- which bytes a stage stores: the first of a text a 00 of its own, any other a part of its write's
+abbrev pub partOf : StagePart → List ℕ → List ℕ
+partOf Terminator bytes = 0 ∷ []
+partOf Whole bytes = bytes
+partOf Tail bytes = drop 1 bytes
+partOf Head bytes = take 1 bytes
 
 -- "a list of stores, each an offset and a value"
 pub record Store : Type 0 where
@@ -194,7 +194,7 @@ singleBytes o [] = []
 singleBytes o (b ∷ bs) = record { offset = o; value = b } ∷ singleBytes (suc o) bs
 
 abbrev pub stageStores : List ℕ → WriteStage → List Store
-stageStores bytes s = singleBytes (s .offset) (partOf (s .part) bytes (0 ∷ []))
+stageStores bytes s = singleBytes (s .offset) (partOf (s .part) bytes)
 
 -- "each write by its `FieldWrite::stages`"
 abbrev pub writeStores : Write → List Store

@@ -13,12 +13,15 @@ use bank::Refusal;
 use bank::ResultLuminaireFormat;
 use bank::check_writable;
 use bank::luminaire_fields;
+use bus::OptionU8;
 use bus::part251::BANK1_FORMAT_GATE_LAST_OFFSET;
 ghost use mathlib.Core.Path.{_≡_};
+ghost use mathlib.Core.List.{[], _∷_};
 ghost use Prim.Native.Nat.{_+_, _*_, _/_, _%_, _^_, _≤_};
 ghost use lib.Count.{ones};
 ghost use lib.ListN.{length, take, drop, getElem?};
 ghost use lib.Seq.{sets};
+ghost use Rattle.bus.specs.Options.{optionU8};
 ghost use Rattle.bus.specs.Value.{laidInto};
 ghost use Rattle.bank.specs.Refusal.{firstOf};
 ghost use Rattle.bank.specs.Fields.{luminaireFields};
@@ -144,8 +147,9 @@ pub enum OptionWriteStage {
 
 impl WriteStage {
     // The stage's bytes, as a part of those of its write or of the 00 that is lent beside them.
-    pub fn bytes<'a>(self, bytes: &'a [u8], terminator: &'a [u8]) -> &'a [u8]
-        ensures { λ r. ⌜ now r ≡ partOf (self .part) (now (bytes .entry)) (now (terminator .entry)) ⌝ }
+    fn bytes<'a>(self, bytes: &'a [u8], terminator: &'a [u8]) -> &'a [u8]
+        requires { ⌜ now terminator ≡ 0 ∷ [] ⌝ }
+        ensures { λ r. ⌜ now r ≡ partOf (self .part) (now (bytes .entry)) ⌝ }
     {
         let part = self.part;
         match part {
@@ -154,6 +158,27 @@ impl WriteStage {
             StagePart::Tail => tail(bytes),
             StagePart::Head => head(bytes),
         }
+    }
+
+    // How many bytes it stores, of a write that has these.
+    pub fn len(self, bytes: &[u8]) -> usize
+        ensures { λ r. ⌜ r ≡ length (partOf (self .part) (now (bytes .entry))) ⌝ }
+    {
+        let terminator = [TEXT_TERMINATOR];
+        let own = self.bytes(bytes, &terminator);
+        own.len()
+    }
+
+    // The byte at a place among them.
+    pub fn byte(self, bytes: &[u8], place: usize) -> OptionU8
+        ensures { λ r. ⌜ r ≡ optionU8 (getElem? (partOf (self .part) (now (bytes .entry))) place) ⌝ }
+    {
+        let terminator = [TEXT_TERMINATOR];
+        let own = self.bytes(bytes, &terminator);
+        if own.len() <= place {
+            return OptionU8::None;
+        }
+        OptionU8::Some(own[place])
     }
 }
 

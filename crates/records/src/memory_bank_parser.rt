@@ -59,11 +59,11 @@ ghost use lib.ListN.{length};
 ghost use Rattle.bus.specs.declared.part251.LuminaireFormat.the-variants.{V3};
 ghost use Rattle.bus.specs.Number.{number};
 ghost use Rattle.bus.specs.Options.{optionU8, optionU64};
-ghost use Rattle.bus.specs.Value.{notImplemented, laidInto};
+ghost use Rattle.bus.specs.Value.{notImplemented, FitsWidth, laidInto};
 ghost use Rattle.bank.specs.Options.{optionU16};
 ghost use Rattle.records.specs.declared.fixed_text.TextLimit.the-variants.{Bytes32};
 ghost use Rattle.records.specs.Options.{optionI8, optionBankReading};
-ghost use Rattle.records.specs.Places.{fieldAt, isThere, byteAt, numberAt, readingOf, readingAt, isScale, scaleOf, scaleAt};
+ghost use Rattle.records.specs.Places.{fieldAt, isThere, byteAt, numberAt, readingOf, readingAt, valueRead, isScale, scaleOf, scaleAt};
 ghost use Rattle.records.specs.Records.{bank0Identity, bank1Profile, bank0BusUnit, energyBank, condition, gearDiagnostics, sourceDiagnostics, luminaireMaintenance};
 ghost use Rattle.records.specs.Luminaire.{valueIn, recordOf, numbersIn, textsIn, luminaire};
 ghost use Rattle.records.specs.Text.{escape, piece, escaped, shownText, textIn, textRegion};
@@ -163,7 +163,8 @@ pub fn parse_reading(
     offset: u8,
     width: ValueWidth,
 ) -> OptionBankReading
-    ensures { λ r. ⌜ r ≡ optionBankReading (readingAt «start_offset» (now (bytes .entry)) offset width) ⌝ }
+    ensures reading { λ r. ⌜ r ≡ optionBankReading (readingAt «start_offset» (now (bytes .entry)) offset width) ⌝ }
+    ensures fits { λ r. ⌜ FitsWidth width (valueRead r) ⌝ }
 {
     if (offset as u16) < start_offset {
         return OptionBankReading::None;

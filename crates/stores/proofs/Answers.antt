@@ -14,7 +14,8 @@ use Rattle.bank.specs.Refusal.{numberOf, firstOf}
 use Rattle.records.specs.declared.luminaire_write.Plan.{Plan}
 use Rattle.records.specs.Writes.{Store, flat, offsetsOf, valuesOf}
 use Rattle.records.specs.Plan.{planChecks, storesOf}
-use Rattle.records.proofs.Room.{AcceptedPlan, offsets-count, values-count, stores-bound}
+use Rattle.records.proofs.Room.{AcceptedPlan, stores-bound}
+use Rattle.records.proofs.Stores.{offsets-count, values-count}
 use Rattle.stores.specs.File.{isGood, textIn, planIn, parsed}
 use Rattle.stores.specs.Listing.{counted, line, storesWord, refusedWord, badFile, storesText, refusedText, planText, printed}
 use Rattle.stores.specs.Steps.{lines}

@@ -50,7 +50,7 @@ loop-again c =
     let told = told-stage (getElem? ss (l .loop .place)) (c .before .stage-of .ensures) (t .1 .given .1) in
     let fits = stage-fits (a .index) (a .field) (a .bytes .now) (s .2) (l .loop .place) (s .1) told in
     let d : Laid (l .loop .offsets) (l .loop .values) (l .loop .n) (stageStores (a .bytes .now) (t .1 .given .0 .0)) (c .match .offsets) (c .match .values) (c .match .n) = stage-laid (t .1 .given .0 .0 .offset) (t .4 .ensures) (t .14 ∙ t .7 .ensures .0) (t .12 ∙ t .7 .ensures .1 .0) (t .13 ∙ t .7 .ensures .1 .1) in
-    (omega arith, s .1, s .2, omega (arith, s .3, fits, d .count, single-count (t .1 .given .0 .0 .offset) (partOf (t .1 .given .0 .0 .part) (a .bytes .now) (0 ∷ []))), next-laid (stageStores (a .bytes .now)) ss (l .loop .place) (s .4) told d))
+    (omega arith, s .1, s .2, omega (arith, s .3, fits, d .count, single-count (t .1 .given .0 .0 .offset) (partOf (t .1 .given .0 .0 .part) (a .bytes .now))), next-laid (stageStores (a .bytes .now)) ss (l .loop .place) (s .4) told d))
     (λ t.
     let told = told-stage (getElem? ss (l .loop .place)) (c .before .stage-of .ensures) (t .1 .given .1) in
     (omega arith, s .1, s .2, omega (arith, s .3, t .4), laid-as (t .2) (t .3) (t .4) (none-next (stageStores (a .bytes .now)) ss (l .loop .place) (s .4) told)))

@@ -7,7 +7,7 @@ use Rattle.records.proofs.memory_bank_parser.parse_condition.Tie as tie
 returns : tie.Need-returns
 returns c =
     let flag = c .before in
-    rw (flag .parse-reading .ensures, c .parse-reading2 .ensures)
+    rw (flag .parse-reading .ensures .0, c .parse-reading2 .ensures .0)
 
 pub parse-condition-spec : {M : Type 1} → statement M
 parse-condition-spec =

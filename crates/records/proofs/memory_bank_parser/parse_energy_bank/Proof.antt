@@ -13,9 +13,9 @@ returns c =
     rw (
       bank-version .byte .ensures,
       energy-scale .parse-scale .ensures,
-      energy .parse-reading .ensures,
+      energy .parse-reading .ensures .0,
       power-scale .parse-scale2 .ensures,
-      c .parse-reading2 .ensures,
+      c .parse-reading2 .ensures .0,
     )
 
 pub parse-energy-bank-spec : {M : Type 1} → statement M

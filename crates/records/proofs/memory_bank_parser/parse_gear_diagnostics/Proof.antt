@@ -21,19 +21,19 @@ returns c =
     let bank-version = operating-time-s .before in
     rw (
       bank-version .byte .ensures,
-      operating-time-s .parse-reading .ensures,
-      start-counter .parse-reading2 .ensures,
-      supply-voltage-decivolt .parse-reading3 .ensures,
-      supply-frequency-hz .parse-reading4 .ensures,
-      power-factor-centi .parse-reading5 .ensures,
+      operating-time-s .parse-reading .ensures .0,
+      start-counter .parse-reading2 .ensures .0,
+      supply-voltage-decivolt .parse-reading3 .ensures .0,
+      supply-frequency-hz .parse-reading4 .ensures .0,
+      power-factor-centi .parse-reading5 .ensures .0,
       overall-failure .parse-condition .ensures,
       undervoltage .parse-condition2 .ensures,
       overvoltage .parse-condition3 .ensures,
       output-power-limitation .parse-condition4 .ensures,
       thermal-derating .parse-condition5 .ensures,
       thermal-shutdown .parse-condition6 .ensures,
-      temperature-offset60 .parse-reading6 .ensures,
-      c .parse-reading7 .ensures,
+      temperature-offset60 .parse-reading6 .ensures .0,
+      c .parse-reading7 .ensures .0,
     )
 
 pub parse-gear-diagnostics-spec : {M : Type 1} → statement M

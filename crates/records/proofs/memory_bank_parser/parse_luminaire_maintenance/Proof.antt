@@ -11,9 +11,9 @@ returns c =
     let bank-version = rated-life-kilohours .before in
     rw (
       bank-version .byte .ensures,
-      rated-life-kilohours .parse-reading .ensures,
-      reference-temperature-offset60 .parse-reading2 .ensures,
-      c .parse-reading3 .ensures,
+      rated-life-kilohours .parse-reading .ensures .0,
+      reference-temperature-offset60 .parse-reading2 .ensures .0,
+      c .parse-reading3 .ensures .0,
     )
 
 pub parse-luminaire-maintenance-spec : {M : Type 1} → statement M

@@ -20,18 +20,18 @@ returns c =
     let bank-version = start-counter-resettable .before in
     rw (
       bank-version .byte .ensures,
-      start-counter-resettable .parse-reading .ensures,
-      start-counter .parse-reading2 .ensures,
-      on-time-resettable-s .parse-reading3 .ensures,
-      on-time-s .parse-reading4 .ensures,
-      voltage-decivolt .parse-reading5 .ensures,
-      current-milliamp .parse-reading6 .ensures,
+      start-counter-resettable .parse-reading .ensures .0,
+      start-counter .parse-reading2 .ensures .0,
+      on-time-resettable-s .parse-reading3 .ensures .0,
+      on-time-s .parse-reading4 .ensures .0,
+      voltage-decivolt .parse-reading5 .ensures .0,
+      current-milliamp .parse-reading6 .ensures .0,
       overall-failure .parse-condition .ensures,
       short-circuit .parse-condition2 .ensures,
       open-circuit .parse-condition3 .ensures,
       thermal-derating .parse-condition4 .ensures,
       thermal-shutdown .parse-condition5 .ensures,
-      c .parse-reading7 .ensures,
+      c .parse-reading7 .ensures .0,
     )
 
 pub parse-source-diagnostics-spec : {M : Type 1} → statement M
