@@ -1,8 +1,6 @@
 -- The theorems on what a colour temperature and a distribution type say: each case has its numbers.
 -- Assumes nothing.
-use mathlib.Core.Path.{_≡_, refl, sym}
-use mathlib.Core.Bool.{Bool, true, false, not, cond, _&&_}
-use Prim.Native.Nat.{ℕ}
+use mathlib.Core.Path.{refl, sym}
 use borrow.Author.Tests.{eq-eqb, eqb-true}
 use lib.Dec.{eqb}
 use Rattle.bus.proofs.Tests.{by-test}

@@ -1,7 +1,7 @@
 -- Laws of an accepted plan: what is known of each field that it writes.
 -- Assumes nothing.
 use mathlib.Core.Path.{_≡_, refl, ap, _∙_, subst}
-use mathlib.Core.Bool.{true, false, cond}
+use mathlib.Core.Bool.{true, cond}
 use mathlib.Core.List.{List, [], _∷_}
 use mathlib.Core.Option.{Option, none, some, Option·some-injective}
 use Prim.Native.Nat.{ℕ, zero, suc, _≤_}

@@ -8,7 +8,7 @@ use mathlib.Core.Option.{Option, none, some, Option·map, bind}
 use Prim.Native.Nat.{ℕ, _+_, _-_, _*_, _^_, _≤_, _<_}
 use native.Mathlib.Nat.{sub-zero, not-suc-le-zero, mod-eq-of-lt}
 use native.Mathlib.Omega.{arith}
-use borrow.Author.Tests.{ltb-true, ltb-false, leb-true, le-leb, ne-eqb, not-false}
+use borrow.Author.Tests.{ltb-true, ltb-false, leb-true, le-leb, ne-eqb}
 use lib.Dec.{leb, ltb}
 use lib.ListN.{length, take, drop, getElem?, length-take, drop-of-length-le}
 use lib.Seq.{take-all, take-nil}
@@ -18,7 +18,6 @@ use Rattle.bus.specs.Number.{number, lowBytes}
 use Rattle.bus.specs.Part251.{fromFormat}
 use Rattle.bus.proofs.Number.{length-lowBytes, number-lowBytes}
 use Rattle.bus.proofs.Tests.{by-test}
-use Rattle.bank.specs.declared.refusal.Refusal.{Refusal}
 use Rattle.bank.specs.declared.luminaire_write.NumberRule.{NumberRule}
 use Rattle.bank.specs.declared.luminaire_write.NumberRule.the-variants.{Year, Week, Power, MainsVoltage, LightOutput, Cri, Cct, LightDistributionType, LampCurrent}
 use Rattle.bank.specs.declared.luminaire_write.LuminaireTextField.{LuminaireTextField}
@@ -27,11 +26,10 @@ use Rattle.bank.specs.declared.luminaire_write.FieldKind.the-variants.{LayoutId
 use Rattle.bank.specs.declared.luminaire_write.LuminaireField.{LuminaireField}
 use Rattle.bank.specs.declared.luminaire_write.Bank1Layout.{Bank1Layout}
 use Rattle.bank.specs.Options.{optionU16}
-use Rattle.bank.specs.Refusal.{Check, firstOf}
+use Rattle.bank.specs.Refusal.{firstOf}
 use Rattle.bank.specs.Rules.{shows}
-use Rattle.bank.specs.Fields.{luminaireFields, fieldEnd, isTextKind, fits, shownBy, acceptsNumber, acceptsText, printable, idIn}
-use Rattle.bank.specs.Writable.{formatIn, writeChecks}
-use Rattle.records.specs.declared.ResultUsize.the-variants.{Ok, Err}
+use Rattle.bank.specs.Fields.{luminaireFields, fieldEnd, isTextKind, fits, shownBy, acceptsNumber, printable, idIn}
+use Rattle.bank.specs.Writable.{formatIn}
 use Rattle.records.specs.declared.luminaire_write.Plan.{Plan}
 use Rattle.records.specs.declared.attributes.OptionLuminaireValue.{OptionLuminaireValue}
 use Rattle.records.specs.declared.fixed_text.FixedText.{FixedText}
@@ -39,7 +37,7 @@ use Rattle.records.specs.Places.{fieldAt, isThere}
 use Rattle.records.specs.Text.{untilZero, limitOf, asText, textIn}
 use Rattle.records.specs.Luminaire.{aNumber, aText, limitFor, says209, valueIn, numberRead, reading, having, formatAt, readAs, reads}
 use Rattle.records.specs.Writes.{Store, numberFor, wantedNumber, isFor, terminated, bytesFor, written, singleBytes, writeStores, storesAt, isStaged, Each, InField}
-use Rattle.records.specs.Plan.{numberChecks, textChecks, ifWanted, planChecks, storesOf, layChecks, shortSlices, planned}
+use Rattle.records.specs.Plan.{planChecks, storesOf}
 use Rattle.records.specs.Cut.{stored, cutBank, storesFor, before, takenIn, EveryFieldHasItsShare}
 use Rattle.records.specs.Claim.{OldBank, Accepted, wantedOf, wanted, begunOf, begun, AllMade, Begun, EveryWantedNumberShown}
 use Rattle.records.proofs.Texts.{printable-reads-as-itself, zero-reads-empty}

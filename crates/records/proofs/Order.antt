@@ -1,31 +1,23 @@
 -- The theorems on planned writes: their order, their places, and that no store of an accepted plan is past the bank's end.
 -- Assumes nothing.
-use mathlib.Core.Path.{_≡_, refl, sym, _∙_, subst}
-use mathlib.Core.Bool.{true, cond}
+use mathlib.Core.Path.{_≡_, refl, sym, subst}
+use mathlib.Core.Bool.{true}
 use mathlib.Core.List.{List, [], _∷_, _++_, append-nil}
-use mathlib.Core.Option.{Option, none, some, Option·some-injective}
-use Prim.Native.Nat.{ℕ, zero, suc, _+_, _-_, _≤_}
+use mathlib.Core.Option.{Option, none, some}
+use Prim.Native.Nat.{ℕ, suc, _+_, _≤_}
 use native.Mathlib.Omega.{arith}
-use borrow.Author.Tests.{leb-true, le-leb, not-false}
-use lib.Dec.{leb}
+use borrow.Author.Tests.{le-leb}
 use lib.ListN.{length, getElem?}
 use Rattle.bus.specs.declared.OptionU8.{OptionU8}
-use Rattle.bus.proofs.Tests.{by-test}
-use Rattle.bus.proofs.Lists.{no-element}
 use Rattle.bank.specs.declared.OptionUsize.{OptionUsize}
-use Rattle.bank.specs.declared.luminaire_write.FieldKind.{FieldKind}
-use Rattle.bank.specs.declared.luminaire_write.FieldKind.the-variants.{LayoutId, Number, Text}
 use Rattle.bank.specs.declared.luminaire_write.LuminaireField.{LuminaireField}
-use Rattle.bank.specs.declared.luminaire_write.Bank1Layout.{Bank1Layout}
-use Rattle.bank.specs.Refusal.{Check, firstOf}
+use Rattle.bank.specs.Refusal.{firstOf}
 use Rattle.bank.specs.Fields.{luminaireFields, fieldEnd, isTextKind}
-use Rattle.bank.specs.Writable.{writeChecks}
-use Rattle.bank.proofs.Checks.{passed, passed-first}
 use Rattle.records.specs.declared.luminaire_write.LuminaireNumbers.{LuminaireNumbers}
 use Rattle.records.specs.declared.luminaire_write.Plan.{Plan}
 use Rattle.records.specs.declared.luminaire_write.WriteStage.{WriteStage}
-use Rattle.records.specs.Writes.{Write, Store, wantedNumber, isFor, gather, bytesFor, written, writesAt, plannedWrites, isStaged, stagesOf, partOf, singleBytes, stageStores, writeStores, storesAt, Each, InField, InPlace, Rising, InOrder, EveryPlanInOrder, Staged, EveryWriteStaged}
-use Rattle.records.specs.Plan.{numberChecks, textChecks, ifWanted, fieldChecks, unknownBits, unknownField, planChecks, storesOf, EveryStoreInBank}
+use Rattle.records.specs.Writes.{Write, Store, gather, bytesFor, written, writesAt, plannedWrites, isStaged, stagesOf, partOf, singleBytes, stageStores, writeStores, storesAt, Each, InField, InPlace, Rising, InOrder, EveryPlanInOrder, Staged, EveryWriteStaged}
+use Rattle.records.specs.Plan.{planChecks, storesOf, EveryStoreInBank}
 use Rattle.records.proofs.Gathering.{each-flat, each-gather, each-map}
 use Rattle.records.proofs.Table.{by-field, table-rises, Sorted}
 use Rattle.records.proofs.Stages.{bytes-fit, stores-of-write, StageIn, stages-in}
