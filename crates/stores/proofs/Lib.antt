@@ -1,3 +1,4 @@
 pub mod Heads
 pub mod Lines
 pub mod Answers
+pub mod Cases

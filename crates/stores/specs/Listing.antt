@@ -1,11 +1,12 @@
 -- 01, "Program `stores`": what is printed, in ASCII.
 -- Assumes nothing.
+use mathlib.Core.Path.{_≡_}
 use mathlib.Core.Bool.{cond}
 use mathlib.Core.List.{List, [], _∷_, _++_}
 use mathlib.Core.Option.{Option, none, some}
 use Prim.Native.Nat.{ℕ, _+_, _/_, _%_}
 use lib.Dec.{ltb}
-use lib.ListN.{length}
+use lib.ListN.{length, replicate}
 use Rattle.bank.specs.declared.refusal.Refusal.{Refusal}
 use Rattle.bank.specs.Refusal.{numberOf, checked}
 use Rattle.records.specs.declared.luminaire_write.Plan.{Plan}
@@ -62,3 +63,29 @@ textOf (some p) text = planText p text
 
 unfoldable pub printed : List ℕ → List ℕ
 printed file = textOf (parsed file) (textIn file)
+
+-- "Format 5, last offset C9 hex, empty mask, index 12, text AB": the file, part by part
+abbrev exampleFile : List ℕ
+exampleFile =
+    0x4C ∷ 0x57 ∷ 0x45
+    ∷ 0x00 ∷ 0x01
+    ∷ 0xC9
+    ∷ 0x00 ∷ 0x05
+    ∷ 0x00 ∷ 0x00
+    ∷ replicate 19 0x00
+    ++ 12
+    ∷ 2
+    ∷ 0x41 ∷ 0x42 ∷ []
+
+-- and what 01 says that it prints, line by line
+abbrev exampleText : List ℕ
+exampleText =
+    0x73 ∷ 0x74 ∷ 0x6F ∷ 0x72 ∷ 0x65 ∷ 0x73 ∷ 0x20 ∷ 0x34 ∷ 0x0A
+    ∷ 0x33 ∷ 0x43 ∷ 0x20 ∷ 0x30 ∷ 0x30 ∷ 0x0A
+    ∷ 0x33 ∷ 0x44 ∷ 0x20 ∷ 0x34 ∷ 0x32 ∷ 0x0A
+    ∷ 0x33 ∷ 0x45 ∷ 0x20 ∷ 0x30 ∷ 0x30 ∷ 0x0A
+    ∷ 0x33 ∷ 0x43 ∷ 0x20 ∷ 0x34 ∷ 0x31 ∷ 0x0A ∷ []
+
+-- The printed listing of 01, byte by byte.
+abbrev pub ListingPrinted : Type 0
+ListingPrinted = printed exampleFile ≡ exampleText
