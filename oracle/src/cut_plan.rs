@@ -6,11 +6,12 @@ use dali2rust_domain::dali::banks::part251::BANK_LUMINAIRE_INFO;
 
 use crate::function::{Function, Row, Source};
 use crate::line::{Args, Line, Output, Put, Sequence, Take};
-use crate::luminaire_write::{planned_stores, random_wanted, with_bit, Numbers, Refusal, Wanted};
+use crate::luminaire_write::{planned_stores, random_wanted, with_bit, Numbers, Wanted};
 use crate::memory_bank_parser::random_bank;
 use crate::read_out::{
     random_answers, random_buffer, random_calls, run, starting, whole_list, CallList, ReadOut, MAX_LENGTH,
 };
+use crate::refusal::Refusal;
 use crate::rng::Rng;
 
 pub const FUNCTIONS: &[&dyn Function] =
@@ -26,7 +27,7 @@ pub struct CutPlan {
     pub answers: Vec<u16>,
 }
 
-type Answer = (Result<ReadOut, u8>, Output, Output, Sequence<u16>);
+type Answer = (Result<ReadOut, Refusal>, Output, Output, Sequence<u16>);
 
 fn read_back(mut plan: CutPlan) -> Answer {
     let read_out = plan.store_and_read();
@@ -35,10 +36,10 @@ fn read_back(mut plan: CutPlan) -> Answer {
 
 impl CutPlan {
     /// A store past the bank's end has no effect.
-    fn store_and_read(&mut self) -> Result<ReadOut, u8> {
+    fn store_and_read(&mut self) -> Result<ReadOut, Refusal> {
         let start = start(&self.bank)?;
         let layout = Bank1Layout::from_header(&self.bank);
-        let stores = planned_stores(&layout, &self.wanted).map_err(Refusal::number)?;
+        let stores = planned_stores(&layout, &self.wanted)?;
         for (offset, value) in stores.into_iter().take(self.cut) {
             if let Some(byte) = self.bank.get_mut(usize::from(offset)) {
                 *byte = value;
@@ -48,8 +49,8 @@ impl CutPlan {
     }
 }
 
-fn start(bank: &[u8]) -> Result<ReadOut, u8> {
-    starting((BANK_LUMINAIRE_INFO, bank.len() as u16)).map_err(|refusal| refusal as u8)
+fn start(bank: &[u8]) -> Result<ReadOut, Refusal> {
+    starting((BANK_LUMINAIRE_INFO, bank.len() as u16))
 }
 
 impl Put for CutPlan {

@@ -7,14 +7,15 @@ mod writes;
 
 use dali2rust_contracts::msg::{LuminaireNumbers, LuminaireTextField};
 use dali2rust_domain::dali::banks::luminaire_write::{
-    check_writable, Bank1Layout, Bank1WriteRefusal, FieldKind, LuminaireField, NumberRule, BANK1_HEADER_LEN,
-    BANK_UNLOCKED, LUMINAIRE_FIELDS, TEXT_TERMINATOR,
+    check_writable, Bank1Layout, FieldKind, LuminaireField, NumberRule, BANK1_HEADER_LEN, BANK_UNLOCKED,
+    LUMINAIRE_FIELDS, TEXT_TERMINATOR,
 };
 use dali2rust_domain::dali::banks::part251::LuminaireFormat;
 
 use crate::function::{Cases, Function, Row, Scale, Source};
 use crate::line::{Args, Line, Put, Take};
 use crate::part251::FORMATS;
+use crate::refusal::Refusal;
 use crate::rng::Rng;
 use plan::{plan_cases, planned, random_plan};
 use wanted::mask_cases;
@@ -23,7 +24,7 @@ use writes::{
     writes_cases, HeldCase, WriteCase,
 };
 
-pub use plan::{longest, planned_stores, random_layout_and_wanted, wanting, with_bit, Refusal};
+pub use plan::{longest, planned_stores, random_layout_and_wanted, wanting, with_bit};
 pub use wanted::{accepted_number, number_fields, random_wanted, telling_u32s, text_fields, Numbers, Wanted};
 
 pub const FUNCTIONS: &[&dyn Function] = &[
@@ -67,8 +68,13 @@ pub const FUNCTIONS: &[&dyn Function] = &[
     .random(random_text),
     &Row::new(0x37, "Bank1Layout::from_header", |header: Vec<u8>| Bank1Layout::from_header(&header), header_cases)
         .random(random_header),
-    &Row::new(0x38, "check_writable", |(layout, field): WritableCase| check_writable(&layout, &field), writable_cases)
-        .random(|source| (random_layout(&mut source.rng), random_field(&mut source.rng))),
+    &Row::new(
+        0x38,
+        "check_writable",
+        |(layout, field): WritableCase| check_writable(&layout, &field).map_err(Refusal::NotWritable),
+        writable_cases,
+    )
+    .random(|source| (random_layout(&mut source.rng), random_field(&mut source.rng))),
     &Row::new(0x39, "planned_writes", all_writes, writes_cases).domain(every_mask).random(random_writes),
     &Row::new(
         0x3A,
@@ -210,23 +216,6 @@ impl Take for Bank1Layout {
     fn take(args: &mut Args) -> Option<Self> {
         let (implemented, content_format_id, last_offset) = args.take()?;
         Some(Self { implemented, content_format_id, last_offset })
-    }
-}
-
-fn refusal_number(refusal: Bank1WriteRefusal) -> u8 {
-    match refusal {
-        Bank1WriteRefusal::FieldReadOnly => 1,
-        Bank1WriteRefusal::NotImplemented => 2,
-        Bank1WriteRefusal::NotRead => 3,
-        Bank1WriteRefusal::NotPart251 => 4,
-        Bank1WriteRefusal::FieldNotInFormat => 5,
-        Bank1WriteRefusal::TooShort => 6,
-    }
-}
-
-impl Put for Bank1WriteRefusal {
-    fn put(&self, line: &mut Line) {
-        line.put(&refusal_number(*self));
     }
 }
 

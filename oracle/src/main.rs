@@ -15,6 +15,7 @@ mod memory_bank_parser;
 mod part251;
 mod program;
 mod read_out;
+mod refusal;
 mod rng;
 mod round_trip;
 mod stores;

@@ -7,10 +7,11 @@ use dali2rust_domain::dali::banks::layout::chunk_len;
 
 use crate::function::{Function, Row, Scale, Source};
 use crate::line::{Args, Line, Output, Put, Take};
+use crate::refusal::Refusal;
 use crate::rng::Rng;
 use calls::{answered, list_cases, random_list};
 
-pub use calls::{random_answers, random_calls, run, whole_list, Call, CallList, REFUSED};
+pub use calls::{random_answers, random_calls, refused, run, whole_list, Call, CallList, REFUSED};
 
 pub const FUNCTIONS: &[&dyn Function] = &[
     &Row::new(0x40, "ReadOut::starting", starting, start_cases).random(random_start),
@@ -30,22 +31,13 @@ pub struct ReadOut {
 
 pub const MAX_LENGTH: u16 = 256;
 
-/// Each refusal with its number.
-#[derive(Clone, Copy)]
-pub enum Refusal {
-    NoBudget = 11,
-    BadReadOut = 12,
-    ShortBuffer = 13,
-    OtherLength = 14,
-}
-
 pub fn starting((bank, length): (u8, u16)) -> Result<ReadOut, Refusal> {
     sound(ReadOut { bank, length, next: 0 })
 }
 
 fn sound(read_out: ReadOut) -> Result<ReadOut, Refusal> {
     if read_out.length > MAX_LENGTH || read_out.next > read_out.length {
-        return Err(Refusal::BadReadOut);
+        return Err(Refusal::ReadOutInvalid);
     }
     Ok(read_out)
 }
@@ -58,7 +50,7 @@ fn done(read_out: ReadOut) -> bool {
 fn wanting(read_out: ReadOut, budget: u16) -> Result<Option<u16>, Refusal> {
     let ReadOut { bank, length, next } = sound(read_out)?;
     if budget == 0 {
-        return Err(Refusal::NoBudget);
+        return Err(Refusal::BudgetZero);
     }
     if done(read_out) {
         return Ok(None);
@@ -70,10 +62,10 @@ fn wanting(read_out: ReadOut, budget: u16) -> Result<Option<u16>, Refusal> {
 fn accepting(read_out: ReadOut, budget: u16, chunk: &[u8], buffer: &mut [u8]) -> Result<ReadOut, Refusal> {
     let wanted = wanting(read_out, budget)?.unwrap_or(0);
     if buffer.len() < usize::from(read_out.length) {
-        return Err(Refusal::ShortBuffer);
+        return Err(Refusal::SliceTooShort);
     }
     if chunk.len() != usize::from(wanted) {
-        return Err(Refusal::OtherLength);
+        return Err(Refusal::WrongChunkLength);
     }
     let next = usize::from(read_out.next);
     buffer[next..next + chunk.len()].copy_from_slice(chunk);
@@ -97,12 +89,6 @@ impl Take for ReadOut {
     fn take(args: &mut Args) -> Option<Self> {
         let (bank, length, next) = args.take()?;
         Some(Self { bank, length, next })
-    }
-}
-
-impl Put for Refusal {
-    fn put(&self, line: &mut Line) {
-        line.put(&(*self as u8));
     }
 }
 

@@ -10,7 +10,8 @@ use dali2rust_registry_runtime::memory_bank_parser::asked::{parse_bank1_luminair
 use super::cases::{Case, Store};
 use crate::line::Args;
 use crate::luminaire_write::index_of;
-use crate::read_out::{Call, ReadOut, REFUSED};
+use crate::read_out::{refused, Call, ReadOut, REFUSED};
+use crate::refusal::Refusal;
 
 /// What the program handed back: the last read-out, and what it was lent.
 pub struct ReadBack {
@@ -110,11 +111,13 @@ fn answer_at(case: &Case, call: &Call, next: usize) -> Option<u16> {
     let remaining = length.checked_sub(next)? as u16;
     let wanted = |budget| chunk_len(BANK_LUMINAIRE_INFO, next as u16, remaining, budget);
     Some(match call {
-        Call::Wanting(0) | Call::Accepting(0, _) => REFUSED + 11,
+        Call::Wanting(0) | Call::Accepting(0, _) => refused(Refusal::BudgetZero),
         Call::Wanting(_) if remaining == 0 => 0,
         Call::Wanting(budget) => wanted(*budget),
-        Call::Accepting(..) if case.buffer.len() < length => REFUSED + 13,
-        Call::Accepting(budget, chunk) if chunk.len() != usize::from(wanted(*budget)) => REFUSED + 14,
+        Call::Accepting(..) if case.buffer.len() < length => refused(Refusal::SliceTooShort),
+        Call::Accepting(budget, chunk) if chunk.len() != usize::from(wanted(*budget)) => {
+            refused(Refusal::WrongChunkLength)
+        }
         Call::Accepting(_, chunk) => (next + chunk.len()) as u16,
     })
 }

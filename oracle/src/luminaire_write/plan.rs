@@ -1,47 +1,16 @@
 //! The plan. The Rust has none: here is a plain second implementation, on the Rust's checks, writes and stages.
 
 use dali2rust_domain::dali::banks::luminaire_write::{
-    check_writable, Bank1Layout, Bank1WriteRefusal, FieldKind, FieldWrite, LuminaireField, NumberRule, WriteStage,
-    LUMINAIRE_FIELDS,
+    check_writable, Bank1Layout, FieldKind, FieldWrite, LuminaireField, NumberRule, WriteStage, LUMINAIRE_FIELDS,
 };
 
 use super::wanted::{random_wanted, telling_u32s, text_fields, texts_of_lengths, Numbers, Wanted, ALL};
 use super::writes::random_more;
-use super::{
-    accepts_text, in_telling_formats, index_of, indices, random_layout, refusal_number, telling_layouts, TELLING_BYTES,
-};
+use super::{accepts_text, in_telling_formats, index_of, indices, random_layout, telling_layouts, TELLING_BYTES};
 use crate::function::Source;
-use crate::line::{Line, Output, Put};
+use crate::line::Output;
+use crate::refusal::Refusal;
 use crate::rng::Rng;
-
-#[derive(Clone, Copy)]
-pub enum Refusal {
-    NotWritable(Bank1WriteRefusal),
-    NumberNotAccepted,
-    TextNotAccepted,
-    UnknownMaskBits,
-    UnknownField,
-    ShortSlice,
-}
-
-impl Refusal {
-    pub fn number(self) -> u8 {
-        match self {
-            Self::NotWritable(refusal) => refusal_number(refusal),
-            Self::NumberNotAccepted => 7,
-            Self::TextNotAccepted => 8,
-            Self::UnknownMaskBits => 9,
-            Self::UnknownField => 10,
-            Self::ShortSlice => 13,
-        }
-    }
-}
-
-impl Put for Refusal {
-    fn put(&self, line: &mut Line) {
-        line.put(&self.number());
-    }
-}
 
 /// An offset and a value.
 pub type Store = (u8, u8);
@@ -95,7 +64,7 @@ fn single_bytes(stage: WriteStage) -> impl Iterator<Item = Store> {
 fn plan(layout: &Bank1Layout, wanted: &Wanted, offsets: &mut [u8], values: &mut [u8]) -> Result<usize, Refusal> {
     let stores = planned_stores(layout, wanted)?;
     if offsets.len() < stores.len() || values.len() < stores.len() {
-        return Err(Refusal::ShortSlice);
+        return Err(Refusal::SliceTooShort);
     }
     for (place, (offset, value)) in stores.iter().enumerate() {
         offsets[place] = *offset;

@@ -1,11 +1,11 @@
 //! A list of calls, each with the read-out last handed back.
 
 use super::{
-    accepting, done, random_budget, random_buffer, random_chunk, random_read_out, sound, wanting, ReadOut, Refusal,
-    BANKS,
+    accepting, done, random_budget, random_buffer, random_chunk, random_read_out, sound, wanting, ReadOut, BANKS,
 };
 use crate::function::Source;
 use crate::line::{Args, Line, Output, Put, Sequence, Take};
+use crate::refusal::Refusal;
 use crate::rng::Rng;
 
 pub enum Call {
@@ -39,7 +39,11 @@ impl Call {
 }
 
 fn number_of<T>(answer: Result<T, Refusal>, number: impl FnOnce(T) -> u16) -> u16 {
-    answer.map_or_else(|refusal| REFUSED + refusal as u16, number)
+    answer.map_or_else(refused, number)
+}
+
+pub fn refused(refusal: Refusal) -> u16 {
+    REFUSED + u16::from(refusal.number())
 }
 
 /// Calls as they are lent: two numbers for each, its budget and the length of its chunk, and the bytes of all chunks.
