@@ -1,5 +1,5 @@
 //! Stands in for the crate of this name, which is not published: `luminaire_write.rs` and `memory_bank_parser.rs` name
-//! these types, and do not compile without it. The values of the patch bits are this stand-in's own.
+//! these types, and do not compile without it.
 
 pub mod msg {
     use std::convert::Infallible;
@@ -20,18 +20,19 @@ pub mod msg {
         pub lamp_current_ma: u16,
     }
 
+    // The crate's own bits are not known. None of these is the port's, so that a bit that is not mapped by its name shows.
     impl LuminaireNumbers {
-        pub const PATCH_YEAR: u16 = 1 << 0;
-        pub const PATCH_WEEK: u16 = 1 << 1;
-        pub const PATCH_NOMINAL_INPUT_POWER_W: u16 = 1 << 2;
-        pub const PATCH_POWER_AT_MINIMUM_W: u16 = 1 << 3;
-        pub const PATCH_NOMINAL_MIN_AC_VOLTAGE_V: u16 = 1 << 4;
-        pub const PATCH_NOMINAL_MAX_AC_VOLTAGE_V: u16 = 1 << 5;
-        pub const PATCH_NOMINAL_LIGHT_OUTPUT_LM: u16 = 1 << 6;
-        pub const PATCH_CRI: u16 = 1 << 7;
-        pub const PATCH_CCT_KELVIN: u16 = 1 << 8;
-        pub const PATCH_LIGHT_DISTRIBUTION_TYPE: u16 = 1 << 9;
-        pub const PATCH_LAMP_CURRENT_MA: u16 = 1 << 10;
+        pub const PATCH_YEAR: u16 = 1 << 9;
+        pub const PATCH_WEEK: u16 = 1 << 14;
+        pub const PATCH_NOMINAL_INPUT_POWER_W: u16 = 1 << 3;
+        pub const PATCH_POWER_AT_MINIMUM_W: u16 = 1 << 12;
+        pub const PATCH_NOMINAL_MIN_AC_VOLTAGE_V: u16 = 1 << 0;
+        pub const PATCH_NOMINAL_MAX_AC_VOLTAGE_V: u16 = 1 << 7;
+        pub const PATCH_NOMINAL_LIGHT_OUTPUT_LM: u16 = 1 << 15;
+        pub const PATCH_CRI: u16 = 1 << 5;
+        pub const PATCH_CCT_KELVIN: u16 = 1 << 11;
+        pub const PATCH_LIGHT_DISTRIBUTION_TYPE: u16 = 1 << 1;
+        pub const PATCH_LAMP_CURRENT_MA: u16 = 1 << 6;
     }
 
     #[derive(Debug, Clone, Copy, PartialEq, Eq)]
