@@ -1,5 +1,5 @@
-//! Stands in for the crate of this name, which is not published: `luminaire_write.rs` and `memory_bank_parser.rs` name
-//! these types, and do not compile without it.
+//! Stands in for the crate of this name, which is not published: `luminaire_write.rs`, `memory_bank_parser.rs` and
+//! `attributes.rs` name these types, and do not compile without it.
 
 pub mod msg {
     use std::convert::Infallible;

@@ -9,4 +9,11 @@ pub mod dali {
     pub mod banks;
 }
 
-pub mod registry;
+#[rustfmt::skip]
+#[allow(warnings, clippy::all)]
+#[path = "../../../original/crates/dali2rust-domain/src/registry"]
+pub mod registry {
+    mod attributes;
+
+    pub use attributes::{BankReading, LuminaireValue};
+}
