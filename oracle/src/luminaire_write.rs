@@ -1,7 +1,8 @@
-//! The functions of `banks/luminaire_write.rs`, and the plan over them. The writes and the plan are in the files of its
-//! folder.
+//! The functions of `banks/luminaire_write.rs`, and the plan over them. The writes, the plan and the rules are in the
+//! files of its folder.
 
 mod plan;
+mod rules;
 mod wanted;
 mod writes;
 
@@ -25,6 +26,7 @@ use writes::{
 };
 
 pub use plan::{longest, planned_stores, random_layout_and_wanted, wanting, with_bit};
+pub use rules::SHOWS_BACK;
 pub use wanted::{accepted_number, number_fields, random_wanted, telling_u32s, text_fields, Numbers, Wanted};
 
 pub const FUNCTIONS: &[&dyn Function] = &[

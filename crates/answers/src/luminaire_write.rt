@@ -45,6 +45,12 @@ fn of_field(number: u8, request: &[u8]) -> bool {
     }
 }
 
+pub(crate) fn shows_back(request: &[u8], text: &mut [u8], n: usize) -> usize {
+    let rule = rule_at(request, 1);
+    let raw = line::u64_at(request, 2);
+    line::put_bool(text, n, rule.shows_back(raw, line::format_at(request, 10)))
+}
+
 fn check_writable(request: &[u8], text: &mut [u8], n: usize) -> usize {
     let layout = layout_at(request, 1);
     let field = field_at(request, layout_end(request, 1));

@@ -1,5 +1,6 @@
 // The read-out and its lists of calls, which the Rust lacks.
 use crate::line;
+use crate::luminaire_write;
 use bank::OptionU16;
 use bank::ReadOut;
 use bank::ResultReadOut;
@@ -14,6 +15,8 @@ pub(crate) fn answer(number: u8, request: &[u8], text: &mut [u8], n: usize) -> u
         0x42 => wanting(request, text, n),
         0x43 => accepting(request, text, n),
         0x44 => run(request, text, n),
+        // The numbers of its own file are used up.
+        0x47 => luminaire_write::shows_back(request, text, n),
         _ => n,
     }
 }
