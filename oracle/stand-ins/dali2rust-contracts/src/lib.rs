@@ -20,7 +20,7 @@ pub mod msg {
         pub lamp_current_ma: u16,
     }
 
-    // The crate's own bits are not known. None of these is the port's, so that a bit that is not mapped by its name shows.
+    // The crate's own bits are not known. Each is another than the port's: one that is not mapped by its name shows.
     impl LuminaireNumbers {
         pub const PATCH_YEAR: u16 = 1 << 9;
         pub const PATCH_WEEK: u16 = 1 << 14;
