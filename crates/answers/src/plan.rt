@@ -2,11 +2,13 @@
 use crate::line;
 use crate::luminaire_write;
 use bank::OptionUsize;
+use bus::OptionU8;
 use records::FieldWrite;
 use records::LuminaireNumbers;
 use records::OptionWriteStage;
 use records::Plan;
 use records::ResultUsize;
+use records::WriteStage;
 use records::luminaire_write::BANK_UNLOCKED;
 use records::luminaire_write::BANK1_HEADER_LEN;
 use records::luminaire_write::TEXT_TERMINATOR;
@@ -81,10 +83,29 @@ fn put_option_stage(text: &mut [u8], n: usize, option: OptionWriteStage, bytes: 
     let OptionWriteStage::Some(stage) = option else {
         return n;
     };
-    let terminator = [TEXT_TERMINATOR];
     let m = line::put_u64(text, n, stage.field as u64);
     let k = line::put_u8(text, m, stage.offset);
-    line::put_lent(text, k, stage.bytes(bytes, &terminator))
+    put_stage_bytes(text, k, stage, bytes)
+}
+
+// Puts nothing where a stage has no such byte.
+fn put_stage_byte(text: &mut [u8], n: usize, option: OptionU8) -> usize {
+    let OptionU8::Some(byte) = option else {
+        return n;
+    };
+    line::put_u8(text, n, byte)
+}
+
+// A stage's bytes, with their count.
+fn put_stage_bytes(text: &mut [u8], n: usize, stage: WriteStage, bytes: &[u8]) -> usize {
+    let len = stage.len(bytes);
+    let mut m = line::put_u16(text, n, (len % 0x1_0000) as u16);
+    let mut place = 0;
+    while place < len {
+        m = put_stage_byte(text, m, stage.byte(bytes, place));
+        place += 1;
+    }
+    m
 }
 
 fn put_stages(text: &mut [u8], n: usize, write: FieldWrite, bytes: &[u8]) -> usize {
