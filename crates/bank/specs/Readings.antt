@@ -22,9 +22,13 @@ cctSays CctReading.Unknown n = not (shows NumberRule.Cct V3 n) && not (eqb n 655
 abbrev pub cctOf : ℕ → CctReading
 cctOf n = cond (cctSays (Kelvin n) n) (Kelvin n) (cond (cctSays Part209Implemented n) Part209Implemented CctReading.Unknown)
 
--- Every number is one that its case says.
+-- What is said of a number says the number, and no other case does.
+pub record SaidExactly (n : ℕ) : Type 0 where
+  pub said : cctSays (cctOf n) n ≡ true
+  pub only : (c : CctReading) → cctSays c n ≡ true → c ≡ cctOf n
+
 abbrev pub EveryTemperatureSaid : Type 0
-EveryTemperatureSaid = (n : ℕ) → cctSays (cctOf n) n ≡ true
+EveryTemperatureSaid = (n : ℕ) → SaidExactly n
 
 -- the number of each case of `LightDistributionType` (IEC 62386-251; the names are those of `part251.rs`)
 abbrev pub typeNumber : LightDistributionType → ℕ

@@ -17,7 +17,7 @@ use Rattle.bus.specs.declared.part251.LuminaireFormat.{LuminaireFormat}
 use Rattle.bus.specs.Number.{number, lowBytes}
 use Rattle.bus.specs.Part251.{fromFormat}
 use Rattle.bus.proofs.Number.{length-lowBytes, number-lowBytes}
-use Rattle.bus.proofs.Tests.{by-test}
+use Rattle.bus.proofs.Tests.{by-test, first-true, second-true}
 use Rattle.bank.specs.declared.luminaire_write.NumberRule.{NumberRule}
 use Rattle.bank.specs.declared.luminaire_write.NumberRule.the-variants.{Year, Week, Power, MainsVoltage, LightOutput, Cri, Cct, LightDistributionType, LampCurrent}
 use Rattle.bank.specs.declared.luminaire_write.LuminaireTextField.{LuminaireTextField}
@@ -42,7 +42,7 @@ use Rattle.records.specs.Cut.{stored, cutBank, storesFor, before, takenI
 use Rattle.records.specs.Claim.{OldBank, Accepted, wantedOf, wanted, begunOf, begun, AllMade, Begun, EveryWantedNumberShown}
 use Rattle.records.proofs.Texts.{printable-reads-as-itself, zero-reads-empty}
 use Rattle.records.proofs.Gathering.{each-gather, each-map}
-use Rattle.records.proofs.Table.{first-true, second-true, entry-passes, by-field, table-rises}
+use Rattle.records.proofs.Table.{entry-passes, by-field, table-rises}
 use Rattle.records.proofs.Stages.{stores-of-write, stores-of-none, single-count, cut-text, short-text}
 use Rattle.records.proofs.Accepted.{in-format, ends-by, accepted-number, accepted-text}
 use Rattle.records.proofs.Plans.{passed-plan}

@@ -10,7 +10,7 @@ use lib.Dec.{leb, lit≤}
 use lib.ListN.{length, take, getElem?, length-append, length-take, length-drop}
 use lib.Seq.{sets, take-all, take-append-le}
 use Rattle.bus.specs.Number.{lowBytes}
-use Rattle.bus.proofs.Tests.{by-test}
+use Rattle.bus.proofs.Tests.{by-test, second-true}
 use Rattle.bus.proofs.Number.{length-lowBytes}
 use Rattle.bus.proofs.Lists.{no-element}
 use Rattle.bank.specs.declared.OptionUsize.{OptionUsize}
@@ -27,7 +27,6 @@ use Rattle.records.specs.Steps.{WithinBank}
 use Rattle.records.specs.Writes.{Each, wantedNumber, isFor, numberBytes, terminated, bytesFor, bytesIn, optionFieldWrite, isStaged, stagesOf, partOf, singleBytes, written, writeStores, storesAt}
 use Rattle.records.proofs.Laying.{front-laid}
 use Rattle.records.proofs.Gathering.{each-at}
-use Rattle.records.proofs.Table.{second-true}
 
 -- no element behind the last
 module _ {A : Type 0} where

@@ -9,6 +9,7 @@ use borrow.Author.Tests.{leb-true}
 use lib.Dec.{leb, lit≤}
 use lib.ListN.{length, getD, getElem?, take}
 use lib.Seq.{take-all}
+use Rattle.bus.proofs.Tests.{first-true, second-true}
 use Rattle.bus.proofs.Lists.{no-element, entry-in}
 use Rattle.bank.specs.declared.luminaire_write.LuminaireField.{LuminaireField}
 use Rattle.bank.specs.declared.OptionUsize.{OptionUsize}
@@ -17,14 +18,6 @@ use Rattle.records.specs.declared.luminaire_write.LuminaireNumbers.{Lumi
 use Rattle.records.specs.Writes.{gather, writesAt, plannedWrites, writeStores, storesAt, planStores}
 use Rattle.records.specs.Steps.{WithinBank}
 use Rattle.records.proofs.Gathering.{flat-gather}
-
-pub first-true : (a b : Bool) → (a && b) ≡ true → a ≡ true
-first-true true b e = refl
-first-true false b e = e
-
-pub second-true : (a b : Bool) → (a && b) ≡ true → b ≡ true
-second-true true b e = e
-second-true false b e = absurd (true≢false (sym e))
 
 -- a test that all fields pass
 abbrev pub allPass : (LuminaireField → Bool) → List LuminaireField → Bool
