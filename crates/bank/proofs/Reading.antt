@@ -31,6 +31,13 @@ pub valid-passes : (r : ReadOut) (budget : ℕ) → Valid r budget → firstOf (
 unfolding firstOf
 valid-passes r budget v = rw (le-ltb 256 (r .length) (v .short), le-ltb (r .length) (r .next) (v .ahead), ne-eqb budget 0 (omega arith))
 
+-- a call that is accepted is not refused
+pub not-both : {A : Type 0} {r : ReadOut} {e : Refusal} → Ok r ≡ Err e → A
+not-both h =
+    let z : _≡_ {A = ℕ} 0 1 = cc in
+    let y : ⊥ = omega arith in
+    absurd y
+
 -- which refusal accepting has
 module _ (chunk : ChunkRule) (r : ReadOut) (budget : ℕ) (bytes buffer : List ℕ) where
   rest : List Check
@@ -82,11 +89,14 @@ module _ (chunk : ChunkRule) (r : ReadOut) (budget : ℕ) (bytes buffer : List �
     where
       go : (o : Option Refusal) → firstOf (acceptChecks chunk r budget bytes buffer) ≡ o → Acceptable chunk r budget bytes buffer
       go none f = acceptable f
-      go (some x) f =
-          let told : Err x ≡ Ok s = refused f .0 ∙ e in
-          let z : _≡_ {A = ℕ} 0 1 = cc in
-          let y : ⊥ = omega arith in
-          absurd y
+      go (some x) f = not-both (sym (refused f .0 ∙ e))
+
+  leaves : {e : Refusal} → accepting chunk r budget bytes buffer ≡ Err e → bufferAfter chunk r budget bytes buffer ≡ buffer
+  leaves {e} h = go (firstOf (acceptChecks chunk r budget bytes buffer)) refl
+    where
+      go : (o : Option Refusal) → firstOf (acceptChecks chunk r budget bytes buffer) ≡ o → bufferAfter chunk r budget bytes buffer ≡ buffer
+      go none f = not-both (taken f .0 ∙ h)
+      go (some x) f = sym (refused f .1)
 
 pub every-chunk-taken-exactly : EveryChunkTakenExactly
 every-chunk-taken-exactly chunk r budget bytes buffer =
@@ -94,6 +104,7 @@ every-chunk-taken-exactly chunk r budget bytes buffer =
       accepted = λ a. sym (taken chunk r budget bytes buffer (acceptable-passes chunk r budget bytes buffer a) .0);
       stored = λ a. sym (taken chunk r budget bytes buffer (acceptable-passes chunk r budget bytes buffer a) .1);
       only = λ {s} e. only chunk r budget bytes buffer e;
+      refused = λ {e} h. leaves chunk r budget bytes buffer h;
     }
 
 -- a copy of all of s is s laid in

@@ -7,6 +7,7 @@ use mathlib.Core.List.{List, [], _∷_, _++_}
 use Prim.Native.Nat.{ℕ, _+_, _-_, _≤_}
 use lib.Dec.{eqb, ltb}
 use lib.ListN.{length, take, drop}
+use Rattle.bank.specs.declared.refusal.Refusal.{Refusal}
 use Rattle.bank.specs.declared.refusal.Refusal.the-variants.{BudgetZero, ReadOutInvalid, SliceTooShort, WrongChunkLength}
 use Rattle.bank.specs.declared.read_out.ReadOut.{ReadOut}
 use Rattle.bank.specs.declared.read_out.ResultReadOut.{ResultReadOut}
@@ -90,11 +91,13 @@ pub record Acceptable (chunk : ChunkRule) (r : ReadOut) (budget : ℕ) (bytes bu
   pub room : r .length ≤ length buffer
   pub exact : length bytes ≡ wantedLen chunk r budget
 
--- A chunk is accepted, and its bytes stored, exactly where nothing is wrong.
+-- A chunk is accepted, and its bytes stored, exactly where nothing is wrong; a refused one changes nothing.
 pub record TakenExactly (chunk : ChunkRule) (r : ReadOut) (budget : ℕ) (bytes buffer : List ℕ) : Type 0 where
   pub accepted : Acceptable chunk r budget bytes buffer → accepting chunk r budget bytes buffer ≡ ResultReadOut.Ok (advanced r (length bytes))
   pub stored : Acceptable chunk r budget bytes buffer → bufferAfter chunk r budget bytes buffer ≡ laid buffer (r .next) bytes
   pub only : {s : ReadOut} → accepting chunk r budget bytes buffer ≡ ResultReadOut.Ok s → Acceptable chunk r budget bytes buffer
+  -- "Each returns its number alone, with read-out and lent slices as before."
+  pub refused : {e : Refusal} → accepting chunk r budget bytes buffer ≡ ResultReadOut.Err e → bufferAfter chunk r budget bytes buffer ≡ buffer
 
 abbrev pub EveryChunkTakenExactly : Type 0
 EveryChunkTakenExactly = (chunk : ChunkRule) (r : ReadOut) (budget : ℕ) (bytes buffer : List ℕ) → TakenExactly chunk r budget bytes buffer

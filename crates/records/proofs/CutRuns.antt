@@ -26,12 +26,13 @@ use Rattle.bank.specs.Chunk.{chunkLen}
 use Rattle.bank.specs.ReadOut.{fresh, starting}
 use Rattle.bank.specs.Calls.{Call, State, stateOf, step, after, answersOf, answerNumber}
 use Rattle.bank.proofs.Options.{told-refusal}
+use Rattle.bank.proofs.Reading.{not-both}
 use Rattle.records.specs.declared.luminaire_write.LuminaireNumbers.{LuminaireNumbers}
 use Rattle.records.specs.declared.luminaire_write.Plan.{Plan}
 use Rattle.records.specs.Plan.{planChecks, storesOf}
 use Rattle.records.specs.Cut.{cutBank}
 use Rattle.records.specs.Claim.{begin, CutReadsBack}
-use Rattle.records.specs.CutRun.{planFor, runChecks, cutOf, bankBehind, readBack, bufferBehind, answersBehind, EveryRunReadsBack}
+use Rattle.records.specs.CutRun.{planFor, runChecks, cutOf, bankBehind, readBack, bufferBehind, answersBehind, EveryRunReadsBack, RunLeavesAll, EveryRefusedRunLeavesAll}
 use Rattle.records.proofs.Luminaire.{element-of-map}
 use Rattle.records.proofs.Stages.{some-same}
 use Rattle.records.proofs.Cutting.{length-stored}
@@ -159,3 +160,10 @@ every-run-reads-back numbers which text old k buffer calls is-old accepted held 
     sound =
         rw (le-ltb 256 (length old) (is-old .few), le-ltb (length old) 0 (omega arith))
         (passed-plan (planFor numbers which text old) text (accepted .offsets) (accepted .values) (accepted .accepts))
+
+pub every-refused-run-leaves-all : EveryRefusedRunLeavesAll
+every-refused-run-leaves-all numbers which text old k buffer calls answers r e = go (firstOf (runChecks numbers which text old)) refl
+  where
+    go : (o : Option Refusal) → firstOf (runChecks numbers which text old) ≡ o → RunLeavesAll numbers which text old k buffer calls answers
+    go none f = not-both (rw f at e)
+    go (some x) f = record { bank = rw f; buffer-stays = rw f; answers-stay = rw f }

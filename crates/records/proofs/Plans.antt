@@ -92,6 +92,15 @@ acceptable p text os vs e = go (firstOf (layChecks p text os vs)) refl
 pub passed-plan : (p : Plan) (text os vs : List ℕ) {count : ℕ} → planned p text os vs ≡ Ok count → firstOf (planChecks p text) ≡ none
 passed-plan p text os vs e = acceptable p text os vs e .allowed
 
+-- a plan that is refused leaves the slices as before
+left : (p : Plan) (text os vs : List ℕ) {r : Refusal} → planned p text os vs ≡ Err r → (offsetsAfter p text os vs ≡ os) × (valuesAfter p text os vs ≡ vs)
+unfolding planned
+left p text os vs {r} e = go (firstOf (layChecks p text os vs)) refl
+  where
+    go : (o : Option Refusal) → firstOf (layChecks p text os vs) ≡ o → (offsetsAfter p text os vs ≡ os) × (valuesAfter p text os vs ≡ vs)
+    go none f = no-error (sym (rw f at e))
+    go (some x) f = (sym (refused p text os vs f .1 .0), sym (refused p text os vs f .1 .1))
+
 -- a plan for no field
 module _ (p : Plan) (text : List ℕ) (no-number : p .numbers .«patch_mask» ≡ 0) (no-text : p .«text_field» ≡ OptionUsize.None) where
   none-wanted : (kind : FieldKind) → wantedNumber (p .numbers) kind ≡ none
@@ -125,6 +134,8 @@ plan-taken-exactly p text os vs =
       offsets = λ a. sym (answered a .1 .0) ∙ laid-whole (offsetsOf ss) os (omega (arith, a .offsets-room, offsets-count ss)) ∙ ap (λ (n : ℕ). offsetsOf ss ++ drop n os) (offsets-count ss);
       values = λ a. sym (answered a .1 .1) ∙ laid-whole (valuesOf ss) vs (omega (arith, a .values-room, values-count ss)) ∙ ap (λ (n : ℕ). valuesOf ss ++ drop n vs) (values-count ss);
       only = λ {count} e. acceptable p text os vs e;
+      offsets-stay = λ {r} e. left p text os vs e .0;
+      values-stay = λ {r} e. left p text os vs e .1;
       no-field = λ a b.
           let none-there = no-stores p text a b in
           sym (answered (record { allowed = no-checks p text a b; offsets-room = rw none-there (omega arith); values-room = rw none-there (omega arith) }) .0) ∙ ap (λ (l : List Store). Ok (length l)) none-there;

@@ -8,6 +8,7 @@ use Prim.Native.Nat.{ℕ, _≤_, _<_}
 use lib.ListN.{length, getElem?}
 use Rattle.bus.specs.Value.{laidInto}
 use Rattle.bank.specs.declared.OptionUsize.{OptionUsize}
+use Rattle.bank.specs.declared.refusal.Refusal.{Refusal}
 use Rattle.bank.specs.declared.read_out.ResultReadOut.{ResultReadOut}
 use Rattle.bank.specs.Refusal.{Check, checked}
 use Rattle.bank.specs.Fields.{fromHeader}
@@ -74,3 +75,14 @@ EveryRunReadsBack =
     OldBank old → Accepted old (planFor numbers which text old) text →
     HoldsChunks chunkLen (cutOf numbers which text old k) (begin (cutOf numbers which text old k) buffer) calls →
     RunReadsBack numbers which text old k buffer calls
+
+-- "Each returns its number alone, with read-out and lent slices as before": a run that is refused leaves all that it was lent.
+pub record RunLeavesAll (numbers : LuminaireNumbers) (which : OptionUsize) (text old : List ℕ) (k : ℕ) (buffer : List ℕ) (calls : List Call) (answers : List ℕ) : Type 0 where
+  pub bank : bankBehind numbers which text old k ≡ old
+  pub buffer-stays : bufferBehind numbers which text old k buffer calls ≡ buffer
+  pub answers-stay : answersBehind numbers which text old k buffer calls answers ≡ answers
+
+abbrev pub EveryRefusedRunLeavesAll : Type 0
+EveryRefusedRunLeavesAll =
+    (numbers : LuminaireNumbers) (which : OptionUsize) (text old : List ℕ) (k : ℕ) (buffer : List ℕ) (calls : List Call) (answers : List ℕ) (r : Refusal) →
+    readBack numbers which text old k buffer calls ≡ ResultReadOut.Err r → RunLeavesAll numbers which text old k buffer calls answers

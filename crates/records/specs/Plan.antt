@@ -11,6 +11,7 @@ use Rattle.bus.specs.declared.OptionU8.{OptionU8}
 use Rattle.bus.specs.declared.part251.LuminaireFormat.{LuminaireFormat}
 use Rattle.bus.specs.Value.{laidInto}
 use Rattle.bank.specs.declared.OptionUsize.{OptionUsize}
+use Rattle.bank.specs.declared.refusal.Refusal.{Refusal}
 use Rattle.bank.specs.declared.refusal.Refusal.the-variants.{NumberNotAccepted, TextNotAccepted, UnknownMaskBits, UnknownField, SliceTooShort}
 use Rattle.bank.specs.declared.luminaire_write.LuminaireField.{LuminaireField}
 use Rattle.bank.specs.declared.luminaire_write.Bank1Layout.{Bank1Layout}
@@ -89,12 +90,15 @@ pub record Acceptable (p : Plan) (text os vs : List ℕ) : Type 0 where
   pub offsets-room : length (storesOf p text) ≤ length os
   pub values-room : length (storesOf p text) ≤ length vs
 
--- A plan is accepted exactly there, and the slices then begin with its stores.
+-- A plan is accepted exactly there, and the slices then begin with its stores; a refused one changes nothing.
 pub record TakenExactly (p : Plan) (text os vs : List ℕ) : Type 0 where
   pub accepted : Acceptable p text os vs → planned p text os vs ≡ ResultUsize.Ok (length (storesOf p text))
   pub offsets : Acceptable p text os vs → offsetsAfter p text os vs ≡ offsetsOf (storesOf p text) ++ drop (length (storesOf p text)) os
   pub values : Acceptable p text os vs → valuesAfter p text os vs ≡ valuesOf (storesOf p text) ++ drop (length (storesOf p text)) vs
   pub only : {count : ℕ} → planned p text os vs ≡ ResultUsize.Ok count → Acceptable p text os vs
+  -- "Each returns its number alone, with read-out and lent slices as before."
+  pub offsets-stay : {r : Refusal} → planned p text os vs ≡ ResultUsize.Err r → offsetsAfter p text os vs ≡ os
+  pub values-stay : {r : Refusal} → planned p text os vs ≡ ResultUsize.Err r → valuesAfter p text os vs ≡ vs
   -- "A plan for no field is accepted and has 0 stores."
   pub no-field : p .numbers .«patch_mask» ≡ 0 → p .«text_field» ≡ OptionUsize.None → planned p text os vs ≡ ResultUsize.Ok 0
 
