@@ -3,7 +3,7 @@
 use mathlib.Core.Path.{_≡_}
 use mathlib.Core.Bool.{Bool, true, false, cond}
 use mathlib.Core.List.{[], _∷_, map}
-use Prim.Native.Nat.{ℕ, _-_, _*_, _/_, _%_, _^_}
+use Prim.Native.Nat.{ℕ, _+_, _-_, _*_, _/_, _%_, _^_, _≤_}
 use lib.Dec.{ltb}
 use lib.IntN.{ℤ, pos, _-ℤ_}
 use Rattle.bus.specs.declared.ValueWidth.{ValueWidth}
@@ -62,3 +62,12 @@ signedMeaning bits n = cond (ltb n (2 ^ bits / 2)) (pos n) (pos n -ℤ pos (2 ^ 
 -- the signed meaning of the low bytes of any number: those above the width count nothing
 abbrev pub toSigned : ValueWidth → ℕ → ℤ
 toSigned w raw = signedMeaning (bitsOf w) (raw % 2 ^ bitsOf w)
+
+-- 02, F-6: "take the remainder by the range .., add half the range, take the remainder by the range again, subtract half
+-- the range"
+abbrev pub signFormula : ℕ → ℕ → ℤ
+signFormula bits n = pos ((n % 2 ^ bits + 2 ^ bits / 2) % 2 ^ bits) -ℤ pos (2 ^ bits / 2)
+
+-- "the answer is the signed meaning of the first remainder": the formula, which has no cases, gives what the cases give
+abbrev pub SignWithoutBranch : Type 0
+SignWithoutBranch = (bits n : ℕ) → 1 ≤ bits → signFormula bits n ≡ signedMeaning bits (n % 2 ^ bits)

@@ -106,17 +106,14 @@ impl ValueWidth {
         }
     }
 
-    // The signed meaning of the low bytes of raw, at any width.
+    // The signed meaning of the low bytes of raw, at any width, without a branch: the first remainder keeps the sum
+    // within 64 bits, and the second brings what is past the range round to below zero.
     pub fn to_signed(self, raw: u64) -> i64
         ensures { λ r. ⌜ r ≡ toSigned self raw ⌝ }
     {
         let range = power_of_two(8 * self.bytes());
-        let low = raw % range;
-        if low < range / 2 {
-            low as i64
-        } else {
-            low as i64 - range as i64
-        }
+        let half = range / 2;
+        ((raw % range + half) % range) as i64 - half as i64
     }
 }
 
