@@ -1,6 +1,7 @@
--- Laws of the signed meaning of a number of so many bits, and the theorem that the formula gives it.
+-- Laws of the signed meaning of a number of so many bits, and the theorems that the formula gives it and that its cases
+-- hold.
 -- Assumes nothing.
-use mathlib.Core.Path.{_≡_, ap, _∙_}
+use mathlib.Core.Path.{_≡_, refl, ap, _∙_}
 use Prim.Native.Nat.{ℕ, zero, suc, _+_, _-_, _*_, _/_, _%_, _^_, _≤_, _<_}
 use native.Mathlib.Nat.{not-suc-le-zero, mod-lt, mod-eq-of-lt, mod-eq-sub-mod}
 use native.Mathlib.Omega.{arith}
@@ -10,6 +11,7 @@ use lib.IntN.{pos, negsuc, _-ℤ_, +ℤ-negℤ-cancel}
 use lib.Pow.{pow-add, pow-pos}
 use lib.Signed.{mag}
 use Rattle.bus.specs.Width.{signedMeaning, SignWithoutBranch}
+use Rattle.bus.specs.SignedCases.{SignedCasesHold}
 use Rattle.bus.proofs.Tests.{by-test}
 
 -- a smaller number less a larger one
@@ -60,3 +62,6 @@ module _ (bits n : ℕ) (some : 1 ≤ bits) (in-range : n < 2 ^ bits) where
 
 pub sign-without-branch : SignWithoutBranch
 sign-without-branch bits n some = formula-meaning bits (n % 2 ^ bits) some (mod-lt n (pow-pos bits))
+
+pub signed-cases-hold : SignedCasesHold
+signed-cases-hold = refl

@@ -2,6 +2,7 @@
 pub mod Options
 pub mod Number
 pub mod Width
+pub mod SignedCases
 pub mod Value
 pub mod Contiguous
 pub mod Maps
