@@ -14,13 +14,8 @@ pub const FUNCTIONS: &[&dyn Function] = &[
     &Row::new(0x03, "ValueWidth::tmask", ValueWidth::tmask, widths),
     &Row::new(0x04, "ValueWidth::max_valid", ValueWidth::max_valid, widths),
     &Row::new(0x05, "ValueWidth::is_signed", ValueWidth::is_signed, widths),
-    &Row::new(
-        0x06,
-        "ValueWidth::to_signed",
-        |(width, raw)| ValueWidth::to_signed(width, raw),
-        |source| at_widths(source, |width, raw| (width, raw)),
-    )
-    .random(|source| random_at_width(source, |width, raw| (width, raw))),
+    &Row::new(0x06, "ValueWidth::to_signed", |(width, raw)| ValueWidth::to_signed(width, raw), signed_cases)
+        .random(|source| random_at_width(source, |width, raw| (width, raw))),
     &Row::new(0x07, "BankValue::value", BankValue::value, bank_values),
     &Row::new(0x08, "BankValue::is_temporarily_unavailable", BankValue::is_temporarily_unavailable, bank_values),
     &Row::new(
@@ -116,6 +111,22 @@ fn raws(scale: Scale, width: ValueWidth) -> impl Iterator<Item = u64> {
 fn at_widths<A>(source: &Source, case: fn(ValueWidth, u64) -> A) -> Vec<A> {
     let at_width = |width| raws(source.scale, width).map(move |raw| case(width, raw));
     WIDTHS.into_iter().flat_map(at_width).collect()
+}
+
+/// A case of every raw value at every width; at full scale of each under random high bytes too, and of as many random
+/// 32-bit numbers.
+fn signed_cases(source: &mut Source) -> Vec<(ValueWidth, u64)> {
+    let mut cases = at_widths(source, |width, raw| (width, raw));
+    if let Scale::Full = source.scale {
+        for width in WIDTHS {
+            for raw in raws(source.scale, width) {
+                let above = source.rng.number() & !ones(width);
+                cases.push((width, above | raw & ones(width)));
+                cases.push((width, source.rng.number() >> 32));
+            }
+        }
+    }
+    cases
 }
 
 fn random_at_width<A>(source: &mut Source, case: fn(ValueWidth, u64) -> A) -> A {

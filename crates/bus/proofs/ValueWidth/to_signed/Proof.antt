@@ -47,18 +47,15 @@ module _ (c : tie.After-power-of-two) where
   some-range : 0 < Range
   some-range = omega (arith, range-is, pow-pos (bitsOf Width))
 
-  low-small : Raw % Range < 2 ^ 63
-  low-small = omega (arith, small-range, mod-lt Raw some-range)
+  remainder-small : (n : ℕ) → n % Range < 2 ^ 63
+  remainder-small n = omega (arith, small-range, mod-lt n some-range)
 
   half-small : Half < 2 ^ 63
   half-small = omega (arith, small-range)
 
-  sum-small : (Raw % Range + Half) % Range < 2 ^ 63
-  sum-small = omega (arith, small-range, mod-lt (Raw % Range + Half) some-range)
-
   meaning : toZ w64 ((Raw % Range + Half) % Range) -ℤ toZ w64 Half ≡ toSigned Width Raw
   meaning =
-      rw (toZ-pos w64 sum-small, toZ-pos w64 half-small)
+      rw (toZ-pos w64 (remainder-small (Raw % Range + Half)), toZ-pos w64 half-small)
       (ap (λ (r : ℕ). pos ((Raw % r + r / 2) % r) -ℤ pos (r / 2)) range-is ∙ sign-without-branch (bitsOf Width) Raw some-bits)
 
   meaning-small : mag (toSigned Width Raw) < 2 ^ 63
@@ -73,10 +70,10 @@ power-of-two-requires : tie.Need-power-of-two-requires
 power-of-two-requires c κs = omega (arith, sized (c .before .args .self))
 
 add-result : tie.Need-add-result
-add-result c = omega (arith, low-small c, half-small c)
+add-result c = omega (arith, remainder-small c (Raw c), half-small c)
 
 cast-result : tie.Need-cast-result
-cast-result c = record { sfits = sum-small c }
+cast-result c = record { sfits = remainder-small c _ }
 
 sub-result : tie.Need-sub-result
 sub-result c = rw (meaning c) (record { sfits = meaning-small c })
