@@ -1,5 +1,5 @@
--- 02, F-6, at "every signed width of document 01 (1, 2 and 4 bytes)": cases around zero, half the range and the top, and
--- of raw numbers above the width. One table, which `proofs/Signed.antt` proves as a whole.
+-- 02, F-6, "Every signed width of document 01 (1, 2 and 4 bytes)": cases around zero, half the range and the top, and of
+-- raw numbers above the width. One table, which `proofs/Signed.antt` proves as a whole.
 -- Assumes nothing.
 use mathlib.Core.Path.{_≡_}
 use mathlib.Core.List.{List, [], _∷_, map}

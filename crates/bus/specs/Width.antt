@@ -68,6 +68,6 @@ toSigned w raw = signedMeaning (bitsOf w) (raw % 2 ^ bitsOf w)
 abbrev pub signFormula : ℕ → ℕ → ℤ
 signFormula bits n = pos ((n % 2 ^ bits + 2 ^ bits / 2) % 2 ^ bits) -ℤ pos (2 ^ bits / 2)
 
--- "the answer is the signed meaning of the first remainder": the formula, which has no cases, gives what the cases give
+-- "the answer is the signed meaning of the first remainder": for any number of bits, from 1 on, and of any number
 abbrev pub SignWithoutBranch : Type 0
 SignWithoutBranch = (bits n : ℕ) → 1 ≤ bits → signFormula bits n ≡ signedMeaning bits (n % 2 ^ bits)

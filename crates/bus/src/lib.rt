@@ -107,7 +107,7 @@ impl ValueWidth {
     }
 
     // The signed meaning of the low bytes of raw, at any width, without a branch: the first remainder keeps the sum
-    // within 64 bits, and the second brings what is past the range round to below zero.
+    // within 64 bits, and the second takes the range off the upper half, whose meaning is below zero.
     pub fn to_signed(self, raw: u64) -> i64
         ensures { λ r. ⌜ r ≡ toSigned self raw ⌝ }
     {
