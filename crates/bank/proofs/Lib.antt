@@ -5,6 +5,7 @@ pub mod Causes
 pub mod Readings
 pub mod Header
 pub mod Texts
+pub mod TextChecks
 pub mod Fields
 pub mod Chunk
 pub mod Bounds

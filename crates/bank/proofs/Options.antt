@@ -12,7 +12,7 @@ use Rattle.bank.specs.declared.luminaire_write.LuminaireField.{Luminaire
 use Rattle.bank.specs.declared.luminaire_write.OptionLuminaireField.{OptionLuminaireField}
 use Rattle.bank.specs.Options.{optionU32, optionUsize, optionRefusal, optionLuminaireField}
 
-abbrev refusalIn : OptionRefusal → Option Refusal
+abbrev pub refusalIn : OptionRefusal → Option Refusal
 refusalIn (OptionRefusal.Some r) = some r
 refusalIn OptionRefusal.None = none
 
@@ -26,7 +26,7 @@ numberIn OptionU32.None = none
 pub told-u32 : (o : Option ℕ) {e t : OptionU32} → e ≡ optionU32 o → e ≡ t → o ≡ numberIn t
 told-u32 o h t = told optionU32 numberIn refl (λ n. refl) o h t
 
-abbrev indexIn : OptionUsize → Option ℕ
+abbrev pub indexIn : OptionUsize → Option ℕ
 indexIn (OptionUsize.Some n) = some n
 indexIn OptionUsize.None = none
 

@@ -108,9 +108,17 @@ abbrev pub acceptsNumber : LuminaireField → LuminaireFormat → ℕ → Bool
 acceptsNumber f v n = shownBy (f .kind) v n && fits (f .len) n
 
 -- "bytes 20 to 7E hex"
+abbrev pub isPrintable : ℕ → Bool
+isPrintable b = leb 0x20 b && leb b 0x7E
+
 unfoldable pub printable : List ℕ → Bool
 printable [] = true
-printable (b ∷ bs) = (leb 0x20 b && leb b 0x7E) && printable bs
+printable (b ∷ bs) = isPrintable b && printable bs
+
+-- 02, F-1: "the index of the first byte outside 20 to 7E hex", if there is one
+unfoldable pub firstNotPrintable : List ℕ → Option ℕ
+firstNotPrintable [] = none
+firstNotPrintable (b ∷ bs) = cond (isPrintable b) (Option·map suc (firstNotPrintable bs)) (some 0)
 
 abbrev pub isTextKind : FieldKind → Bool
 isTextKind LayoutId = false

@@ -3,19 +3,22 @@
 use mathlib.Core.Bool.{Bool, true, false, not}
 use mathlib.Core.List.{List, [], _∷_}
 use mathlib.Core.Option.{Option, none, some}
+use Prim.Native.Nat.{ℕ}
+use lib.Dec.{ltb}
+use lib.ListN.{length}
 use Rattle.bus.specs.declared.OptionU8.{OptionU8}
 use Rattle.bus.specs.declared.part251.LuminaireFormat.{LuminaireFormat}
 use Rattle.bus.specs.Part251.{formatOf, fromFormat}
 use Rattle.bank.specs.declared.OptionBool.{OptionBool}
 use Rattle.bank.specs.declared.OptionU16.{OptionU16}
-use Rattle.bank.specs.declared.refusal.Refusal.the-variants.{FieldReadOnly, NotImplemented, NotRead, NotPart251, FieldNotInFormat, TooShort}
+use Rattle.bank.specs.declared.refusal.Refusal.the-variants.{FieldReadOnly, NotImplemented, NotRead, NotPart251, FieldNotInFormat, TooShort, TextNotAccepted}
 use Rattle.bank.specs.declared.luminaire_write.FieldKind.{FieldKind}
 use Rattle.bank.specs.declared.luminaire_write.FieldKind.the-variants.{LayoutId, Number, Text}
 use Rattle.bank.specs.declared.luminaire_write.LuminaireField.{LuminaireField}
 use Rattle.bank.specs.declared.luminaire_write.Bank1Layout.{Bank1Layout}
 use Rattle.bank.specs.declared.luminaire_write.ResultLuminaireFormat.{ResultLuminaireFormat}
 use Rattle.bank.specs.Refusal.{Check, _when_, checked}
-use Rattle.bank.specs.Fields.{endsBy}
+use Rattle.bank.specs.Fields.{firstNotPrintable, isTextKind, endsBy}
 
 -- 1: the layout id is read-only
 abbrev pub readOnly : FieldKind → Bool
@@ -70,3 +73,14 @@ writable none = ResultLuminaireFormat.Err NotPart251
 
 unfoldable pub checkWritable : Bank1Layout → LuminaireField → ResultLuminaireFormat
 checkWritable l f = checked (writeChecks l f) ResultLuminaireFormat.Err (writable (formatIn (l .«content_format_id»)))
+
+-- 8: a byte of a text that is not printable
+abbrev pub unprintableAt : Option ℕ → List Check
+unprintableAt none = []
+unprintableAt (some index) = TextNotAccepted when true ∷ []
+
+abbrev pub textChecks : LuminaireField → List ℕ → List Check
+textChecks f text =
+    TextNotAccepted when not (isTextKind (f .kind))
+    ∷ TextNotAccepted when ltb (f .len) (length text)
+    ∷ unprintableAt (firstNotPrintable text)

@@ -2,6 +2,7 @@
 use crate::OptionBool;
 use crate::OptionU16;
 use crate::OptionUsize;
+use crate::refusal::OptionRefusal;
 use crate::refusal::Refusal;
 use bus::LuminaireFormat;
 use bus::OptionLuminaireFormat;
@@ -32,10 +33,11 @@ ghost use lib.Dec.{leb};
 ghost use lib.ListN.{getElem?};
 ghost use Rattle.bus.specs.Part251.{fromFormat};
 ghost use Rattle.bus.specs.Options.{optionU8, optionLuminaireFormat};
-ghost use Rattle.bank.specs.Options.{optionU16, optionUsize, optionLuminaireField};
+ghost use Rattle.bank.specs.Options.{optionU16, optionUsize, optionRefusal, optionLuminaireField};
+ghost use Rattle.bank.specs.Refusal.{firstOf};
 ghost use Rattle.bank.specs.Rules.{shows};
-ghost use Rattle.bank.specs.Fields.{luminaireFields, placeOf, lastOffset, endsBy, fits, acceptsNumber, printable, acceptsText, idIn, fromHeader};
-ghost use Rattle.bank.specs.Writable.{readOnly, missing, formatIn, checkWritable};
+ghost use Rattle.bank.specs.Fields.{luminaireFields, placeOf, lastOffset, endsBy, fits, acceptsNumber, isPrintable, firstNotPrintable, isTextKind, acceptsText, idIn, fromHeader};
+ghost use Rattle.bank.specs.Writable.{readOnly, missing, formatIn, checkWritable, textChecks};
 
 pub enum NumberRule {
     Year,
@@ -346,20 +348,40 @@ impl LuminaireField {
         }
     }
 
-    // DiiA 251 §9.2.5
-    pub fn accepts_text(self, text: &[u8]) -> bool
-        ensures { λ r. ⌜ r ≡ acceptsText self (now (text .entry)) ⌝ }
+    fn is_text(self) -> bool
+        ensures { λ r. ⌜ r ≡ isTextKind (self .kind) ⌝ }
     {
         let kind = self.kind;
         match kind {
             FieldKind::LayoutId => false,
             FieldKind::Number { patch: _, rule: _ } => false,
-            FieldKind::Text(_) => {
-                if (self.len as usize) < text.len() {
-                    return false;
-                }
-                is_printable(text)
-            }
+            FieldKind::Text(_) => true,
+        }
+    }
+
+    // Why the field does not accept a text.
+    pub fn text_refusal(self, text: &[u8]) -> OptionRefusal
+        ensures { λ r. ⌜ r ≡ optionRefusal (firstOf (textChecks self (now (text .entry)))) ⌝ }
+    {
+        if !self.is_text() {
+            return OptionRefusal::Some(Refusal::TextNotAccepted);
+        }
+        if (self.len as usize) < text.len() {
+            return OptionRefusal::Some(Refusal::TextNotAccepted);
+        }
+        match first_not_printable(text) {
+            OptionUsize::Some(_) => OptionRefusal::Some(Refusal::TextNotAccepted),
+            OptionUsize::None => OptionRefusal::None,
+        }
+    }
+
+    // DiiA 251 §9.2.5
+    pub fn accepts_text(self, text: &[u8]) -> bool
+        ensures { λ r. ⌜ r ≡ acceptsText self (now (text .entry)) ⌝ }
+    {
+        match self.text_refusal(text) {
+            OptionRefusal::Some(_) => false,
+            OptionRefusal::None => true,
         }
     }
 }
@@ -374,21 +396,24 @@ fn fits(value: u64, len: u8) -> bool
     value < 1 << (8 * len)
 }
 
-fn is_printable(text: &[u8]) -> bool
-    ensures { λ r. ⌜ r ≡ printable (now (text .entry)) ⌝ }
+fn is_printable(byte: u8) -> bool
+    ensures { λ r. ⌜ r ≡ isPrintable byte ⌝ }
+{
+    is_between(b' ' as u64, byte as u64, b'~' as u64)
+}
+
+// The index of the first byte that is not printable.
+fn first_not_printable(text: &[u8]) -> OptionUsize
+    ensures { λ r. ⌜ r ≡ optionUsize (firstNotPrintable (now (text .entry))) ⌝ }
 {
     let mut i = 0;
     while i < text.len() {
-        let byte = text[i];
-        if byte < b' ' {
-            return false;
-        }
-        if b'~' < byte {
-            return false;
+        if !is_printable(text[i]) {
+            return OptionUsize::Some(i);
         }
         i += 1;
     }
-    true
+    OptionUsize::None
 }
 
 // What a header of bank 1 tells, as far as it was read.

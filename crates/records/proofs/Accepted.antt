@@ -17,12 +17,13 @@ use Rattle.bank.specs.declared.luminaire_write.FieldKind.the-variants.{LayoutId
 use Rattle.bank.specs.declared.luminaire_write.LuminaireField.{LuminaireField}
 use Rattle.bank.specs.Refusal.{Check, firstOf}
 use Rattle.bank.specs.Fields.{luminaireFields, lastOffset, acceptsNumber, acceptsText}
-use Rattle.bank.specs.Writable.{formatIn, writeChecks}
+use Rattle.bank.specs.Writable.{formatIn, writeChecks, textChecks}
 use Rattle.bank.proofs.Checks.{none-first, none-second, passed}
+use Rattle.bank.proofs.TextChecks.{passed-text}
 use Rattle.bank.proofs.Writable as writable
 use Rattle.records.specs.declared.luminaire_write.Plan.{Plan}
 use Rattle.records.specs.Writes.{gather, numberFor, wantedNumber, isFor, bytesFor}
-use Rattle.records.specs.Plan.{numberChecks, textChecks, ifWanted, fieldChecks, unknownBits, unknownField, planChecks}
+use Rattle.records.specs.Plan.{numberChecks, writeTextChecks, ifWanted, fieldChecks, unknownBits, unknownField, planChecks}
 
 none-gather : (g : ℕ → LuminaireField → List Check) (fs : List LuminaireField) → firstOf (gather g fs) ≡ none → (i : ℕ) {f : LuminaireField} → getElem? fs i ≡ some f → firstOf (g i f) ≡ none
 none-gather g [] e i m = no-element m
@@ -34,7 +35,7 @@ module _ (p : Plan) (text : List ℕ) (sound : firstOf (planChecks p text) ≡ n
   ofNumber = ifWanted (wantedNumber (p .numbers) (f .kind)) (numberChecks (p .layout) f)
 
   abbrev ofText : List Check
-  ofText = cond (isFor (p .«text_field») i) (textChecks (p .layout) f text) []
+  ofText = cond (isFor (p .«text_field») i) (writeTextChecks (p .layout) f text) []
 
   -- neither a field's number nor its text is refused
   field-sound : firstOf (fieldChecks p text i f) ≡ none
@@ -44,7 +45,7 @@ module _ (p : Plan) (text : List ℕ) (sound : firstOf (planChecks p text) ≡ n
   number-sound : {value : ℕ} → wantedNumber (p .numbers) (f .kind) ≡ some value → firstOf (numberChecks (p .layout) f value) ≡ none
   number-sound w = rw w at (none-first ofNumber ofText field-sound)
 
-  text-sound : isFor (p .«text_field») i ≡ true → firstOf (textChecks (p .layout) f text) ≡ none
+  text-sound : isFor (p .«text_field») i ≡ true → firstOf (writeTextChecks (p .layout) f text) ≡ none
   text-sound w = rw w at (none-second ofNumber ofText field-sound)
 
   pub accepted-number :
@@ -55,9 +56,7 @@ module _ (p : Plan) (text : List ℕ) (sound : firstOf (planChecks p text) ≡ n
       not-false (acceptsNumber f v value) (rw format at (last .0))
 
   pub accepted-text : isFor (p .«text_field») i ≡ true → acceptsText f text ≡ true
-  accepted-text w =
-      let last = passed _ (none-second (writeChecks (p .layout) f) _ (text-sound w)) in
-      not-false (acceptsText f text) (last .0)
+  accepted-text w = passed-text f text (none-second (writeChecks (p .layout) f) (textChecks f text) (text-sound w))
 
   -- a field that has a write may be written
   may-write : (kind : FieldKind) {bytes : List ℕ} → f .kind ≡ kind → bytesFor kind (p .numbers) (p .«text_field») text i f ≡ some bytes → firstOf (writeChecks (p .layout) f) ≡ none

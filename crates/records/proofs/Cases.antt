@@ -6,7 +6,7 @@ use Rattle.bus.specs.Number.{number, lowBytes}
 use Rattle.bus.specs.Maps.{mapAt, firstWith}
 use Rattle.bus.specs.Part251.{formatOf}
 use Rattle.bank.specs.Refusal.{firstOf}
-use Rattle.bank.specs.Fields.{luminaireFields, printable, idIn}
+use Rattle.bank.specs.Fields.{luminaireFields, firstNotPrintable, idIn}
 use Rattle.bank.specs.Writable.{checkWritable}
 use Rattle.bank.specs.Chunk.{fieldsFrom, withFurther, wholeFields, chunkLen}
 use Rattle.records.specs.Utf8.{table3-7, follow, sequenceLen}
@@ -16,5 +16,5 @@ use Rattle.records.specs.Plan.{planChecks}
 use Rattle.records.specs.Cases.{cases, CasesHold}
 
 pub cases-hold : CasesHold
-unfolding cases chunkLen wholeFields withFurther fieldsFrom mapAt firstOf checkWritable luminaireFields idIn number formatOf firstWith table3-7 follow sequenceLen piecesBehind fitting lowBytes printable trailingZeros numberFor plannedWrites planStores planChecks
+unfolding cases chunkLen wholeFields withFurther fieldsFrom mapAt firstOf checkWritable luminaireFields idIn number formatOf firstWith table3-7 follow sequenceLen piecesBehind fitting lowBytes firstNotPrintable trailingZeros numberFor plannedWrites planStores planChecks
 cases-hold = refl

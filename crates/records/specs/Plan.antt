@@ -12,12 +12,12 @@ use Rattle.bus.specs.declared.part251.LuminaireFormat.{LuminaireFormat}
 use Rattle.bus.specs.Value.{laidInto}
 use Rattle.bank.specs.declared.OptionUsize.{OptionUsize}
 use Rattle.bank.specs.declared.refusal.Refusal.{Refusal}
-use Rattle.bank.specs.declared.refusal.Refusal.the-variants.{NumberNotAccepted, TextNotAccepted, UnknownMaskBits, UnknownField, SliceTooShort}
+use Rattle.bank.specs.declared.refusal.Refusal.the-variants.{NumberNotAccepted, UnknownMaskBits, UnknownField, SliceTooShort}
 use Rattle.bank.specs.declared.luminaire_write.LuminaireField.{LuminaireField}
 use Rattle.bank.specs.declared.luminaire_write.Bank1Layout.{Bank1Layout}
 use Rattle.bank.specs.Refusal.{Check, _when_, firstOf, checked}
-use Rattle.bank.specs.Fields.{luminaireFields, acceptsNumber, acceptsText}
-use Rattle.bank.specs.Writable.{formatIn, writeChecks}
+use Rattle.bank.specs.Fields.{luminaireFields, acceptsNumber}
+use Rattle.bank.specs.Writable.{formatIn, writeChecks, textChecks}
 use Rattle.records.specs.declared.ResultUsize.{ResultUsize}
 use Rattle.records.specs.declared.luminaire_write.Plan.{Plan}
 use Rattle.records.specs.Writes.{wantedNumber, isFor, gather, Store, Each, offsetsOf, valuesOf, planStores}
@@ -32,8 +32,8 @@ abbrev pub numberChecks : Bank1Layout → LuminaireField → ℕ → List Check
 numberChecks l f value = writeChecks l f ++ NumberNotAccepted when rejects (formatIn (l .«content_format_id»)) f value ∷ []
 
 -- "or 8"
-abbrev pub textChecks : Bank1Layout → LuminaireField → List ℕ → List Check
-textChecks l f text = writeChecks l f ++ TextNotAccepted when not (acceptsText f text) ∷ []
+abbrev pub writeTextChecks : Bank1Layout → LuminaireField → List ℕ → List Check
+writeTextChecks l f text = writeChecks l f ++ textChecks f text
 
 abbrev pub ifWanted : Option ℕ → (ℕ → List Check) → List Check
 ifWanted none checks = []
@@ -43,7 +43,7 @@ ifWanted (some value) checks = checks value
 abbrev pub fieldChecks : Plan → List ℕ → ℕ → LuminaireField → List Check
 fieldChecks p text place f =
     ifWanted (wantedNumber (p .numbers) (f .kind)) (numberChecks (p .layout) f)
-    ++ cond (isFor (p .«text_field») place) (textChecks (p .layout) f text) []
+    ++ cond (isFor (p .«text_field») place) (writeTextChecks (p .layout) f text) []
 
 -- 9: "mask bits 11 to 15"
 abbrev pub unknownBits : Plan → Check

@@ -27,7 +27,7 @@ ghost use Rattle.bank.specs.Refusal.{firstOf};
 ghost use Rattle.bank.specs.Fields.{luminaireFields};
 ghost use Rattle.bank.specs.Options.{optionU32, optionUsize, optionRefusal};
 ghost use Rattle.records.specs.Writes.{numberValues, numberFor, wantedNumber, isFor, numberBytes, terminated, bytesFor, bytesIn, counted, optionFieldWrite, written, writesAt, plannedWrites, indices, lengths, allBytes, endOf, same, heldBy, isStaged, stagesOf, optionWriteStage, stagesAt, partOf, singleBytes, writeStores, storesAt, planStores, offsetsOf, valuesOf, gather};
-ghost use Rattle.records.specs.Plan.{numberChecks, textChecks, ifWanted, fieldChecks, indexOver, planChecks, planned, offsetsAfter, valuesAfter};
+ghost use Rattle.records.specs.Plan.{numberChecks, writeTextChecks, ifWanted, fieldChecks, indexOver, planChecks, planned, offsetsAfter, valuesAfter};
 ghost use Rattle.records.specs.Steps.{WithinBank, countsWith};
 
 // IEC 62386-102 §9.10.2, table 8
@@ -609,15 +609,10 @@ fn number_refusal(layout: Bank1Layout, field: LuminaireField, value: u32) -> Opt
 
 // Why a text may not be written to a field.
 fn text_refusal(layout: Bank1Layout, field: LuminaireField, text: &[u8]) -> OptionRefusal
-    ensures { λ r. ⌜ r ≡ optionRefusal (firstOf (textChecks layout field (now (text .entry)))) ⌝ }
+    ensures { λ r. ⌜ r ≡ optionRefusal (firstOf (writeTextChecks layout field (now (text .entry)))) ⌝ }
 {
     match check_writable(layout, field) {
-        ResultLuminaireFormat::Ok(_) => {
-            if field.accepts_text(text) {
-                return OptionRefusal::None;
-            }
-            OptionRefusal::Some(Refusal::TextNotAccepted)
-        }
+        ResultLuminaireFormat::Ok(_) => field.text_refusal(text),
         ResultLuminaireFormat::Err(refusal) => OptionRefusal::Some(refusal),
     }
 }
