@@ -1,18 +1,27 @@
 -- Laws of printable texts: the first byte that is not printable, and the first byte of a printable text.
 -- Assumes nothing.
-use mathlib.Core.Path.{_≡_, refl, sym, ap}
-use mathlib.Core.Bool.{true, false, _&&_}
+use mathlib.Core.Path.{_≡_, refl, sym, ap, subst}
+use mathlib.Core.Bool.{true, false}
 use mathlib.Core.List.{List, [], _∷_}
-use mathlib.Core.Option.{none, some, Option·map, map-eq-none-iff}
+use mathlib.Core.Option.{none, some, Option·map, Option·some-injective, map-eq-none-iff, map-eq-some-iff}
 use Prim.Native.Nat.{ℕ, zero, suc, _+_, _≤_, _<_}
 use native.Mathlib.Nat.{le-of-suc-le-suc, not-suc-le-zero}
 use native.Mathlib.Numerals.{add-one}
-use borrow.Author.Tests.{leb-true}
+use native.Mathlib.Omega.{arith}
+use borrow.Author.Tests.{le-leb, leb-true, leb-false}
 use lib.Dec.{leb}
-use lib.ListN.{length, getD, take}
-use Rattle.bus.proofs.Tests.{first-true, second-true, by-test, no-yes}
+use lib.ListN.{length, getD, getElem?, take}
+use Rattle.bus.proofs.Tests.{first-true, second-true, by-test}
 use Rattle.bus.proofs.Lists.{no-element}
 use Rattle.bank.specs.Fields.{isPrintable, printable, firstNotPrintable}
+use Rattle.bank.specs.Writable.{FirstOutside}
+
+-- a byte is inside 20 to 7E hex exactly where it is printable
+inside : (b : ℕ) → isPrintable b ≡ true → (0x20 ≤ b) × (b ≤ 0x7E)
+inside b e = (leb-true 0x20 b (first-true (leb 0x20 b) (leb b 0x7E) e), leb-true b 0x7E (second-true (leb 0x20 b) (leb b 0x7E) e))
+
+outside : (b : ℕ) → isPrintable b ≡ false → 0x20 ≤ b → 0x7E < b
+outside b e h = leb-false b 0x7E (rw (le-leb 0x20 b h) at e)
 
 -- behind a printable byte, none is found where the rest has none
 rest-has-none : (b : ℕ) (bs : List ℕ) → firstNotPrintable (b ∷ bs) ≡ none → (isPrintable b ≡ true) × (firstNotPrintable bs ≡ none)
@@ -46,11 +55,8 @@ passed-byte bytes i e h b = rw add-one (passed-suc bytes i e h b)
 pub head-printable : (b : ℕ) (bs : List ℕ) → printable (b ∷ bs) ≡ true → (0x20 ≤ b) × (b ≤ 0x7E) × (printable bs ≡ true)
 unfolding printable
 head-printable b bs e =
-    let p = first-true (isPrintable b) (printable bs) e in (
-      leb-true 0x20 b (first-true (leb 0x20 b) (leb b 0x7E) p),
-      leb-true b 0x7E (second-true (leb 0x20 b) (leb b 0x7E) p),
-      second-true (isPrintable b) (printable bs) e,
-    )
+    let p = inside b (first-true (isPrintable b) (printable bs) e) in
+    (p .0, p .1, second-true (isPrintable b) (printable bs) e)
 
 -- a text is printable exactly where no byte is found that is not
 pub printable-none : (bytes : List ℕ) → firstNotPrintable bytes ≡ none → printable bytes ≡ true
@@ -64,3 +70,43 @@ pub none-printable : (bytes : List ℕ) → printable bytes ≡ true → firstNo
 unfolding firstNotPrintable printable
 none-printable [] e = refl
 none-printable (b ∷ bs) e = rw (first-true (isPrintable b) (printable bs) e) (ap (Option·map suc) (none-printable bs (second-true (isPrintable b) (printable bs) e)))
+
+-- what a scan finds is the first byte outside
+first-later : {b i : ℕ} {bs : List ℕ} → isPrintable b ≡ true → FirstOutside bs i → FirstOutside (b ∷ bs) (suc i)
+first-later {b} {i} {bs} t f =
+    record {
+      byte = f .byte;
+      at-index = f .at-index;
+      outside = f .outside;
+      inside-before = before;
+    }
+  where
+    before : (j c : ℕ) → j < suc i → getElem? (b ∷ bs) j ≡ some c → (0x20 ≤ c) × (c ≤ 0x7E)
+    before zero c h e = subst (λ (x : ℕ). (0x20 ≤ x) × (x ≤ 0x7E)) (Option·some-injective _ _ e) (inside b t)
+    before (suc j) c h e = f .inside-before j c (le-of-suc-le-suc h) e
+
+pub found-first : (bytes : List ℕ) {i : ℕ} → firstNotPrintable bytes ≡ some i → FirstOutside bytes i
+unfolding firstNotPrintable
+found-first [] e = no-element e
+found-first (b ∷ bs) {i} e =
+    by-test (isPrintable b)
+    (λ t.
+    let r = map-eq-some-iff suc (firstNotPrintable bs) .0 (rw t at e) in
+    subst (FirstOutside (b ∷ bs)) (r .2) (first-later t (found-first bs (r .1))))
+    (λ t.
+    subst (FirstOutside (b ∷ bs)) (Option·some-injective _ _ (rw t at e))
+    (record { byte = b; at-index = refl; outside = outside b t; inside-before = λ j c h. absurd (not-suc-le-zero h) }))
+
+pub found-below : (bytes : List ℕ) {i : ℕ} → firstNotPrintable bytes ≡ some i → i < length bytes
+unfolding firstNotPrintable
+found-below [] e = no-element e
+found-below (b ∷ bs) {i} e =
+    by-test (isPrintable b)
+    (λ t.
+    let r = map-eq-some-iff suc (firstNotPrintable bs) .0 (rw t at e) in
+    let below = found-below bs (r .1) in
+    let is : suc (r .0) ≡ i = r .2 in
+    omega arith)
+    (λ t.
+    let is : 0 ≡ i = Option·some-injective _ _ (rw t at e) in
+    omega arith)

@@ -1,24 +1,25 @@
--- 01, "May the field be written": "`check_writable` is the reference for 1 to 6."
+-- 01, "May the field be written": "`check_writable` is the reference for 1 to 6." 02, F-1: why a text is refused.
 -- Assumes nothing.
+use mathlib.Core.Path.{_≡_}
 use mathlib.Core.Bool.{Bool, true, false, not}
 use mathlib.Core.List.{List, [], _∷_}
 use mathlib.Core.Option.{Option, none, some}
-use Prim.Native.Nat.{ℕ}
+use Prim.Native.Nat.{ℕ, _≤_, _<_}
 use lib.Dec.{ltb}
-use lib.ListN.{length}
+use lib.ListN.{length, getElem?}
 use Rattle.bus.specs.declared.OptionU8.{OptionU8}
 use Rattle.bus.specs.declared.part251.LuminaireFormat.{LuminaireFormat}
 use Rattle.bus.specs.Part251.{formatOf, fromFormat}
 use Rattle.bank.specs.declared.OptionBool.{OptionBool}
 use Rattle.bank.specs.declared.OptionU16.{OptionU16}
-use Rattle.bank.specs.declared.refusal.Refusal.the-variants.{FieldReadOnly, NotImplemented, NotRead, NotPart251, FieldNotInFormat, TooShort, TextNotAccepted}
+use Rattle.bank.specs.declared.refusal.Refusal.the-variants.{FieldReadOnly, NotImplemented, NotRead, NotPart251, FieldNotInFormat, TooShort, FieldNotText, TextTooLong, ByteNotPrintable}
 use Rattle.bank.specs.declared.luminaire_write.FieldKind.{FieldKind}
 use Rattle.bank.specs.declared.luminaire_write.FieldKind.the-variants.{LayoutId, Number, Text}
 use Rattle.bank.specs.declared.luminaire_write.LuminaireField.{LuminaireField}
 use Rattle.bank.specs.declared.luminaire_write.Bank1Layout.{Bank1Layout}
 use Rattle.bank.specs.declared.luminaire_write.ResultLuminaireFormat.{ResultLuminaireFormat}
-use Rattle.bank.specs.Refusal.{Check, _when_, checked}
-use Rattle.bank.specs.Fields.{firstNotPrintable, isTextKind, endsBy}
+use Rattle.bank.specs.Refusal.{Check, _when_, firstOf, checked}
+use Rattle.bank.specs.Fields.{firstNotPrintable, isTextKind, acceptsText, endsBy}
 
 -- 1: the layout id is read-only
 abbrev pub readOnly : FieldKind → Bool
@@ -74,13 +75,33 @@ writable none = ResultLuminaireFormat.Err NotPart251
 unfoldable pub checkWritable : Bank1Layout → LuminaireField → ResultLuminaireFormat
 checkWritable l f = checked (writeChecks l f) ResultLuminaireFormat.Err (writable (formatIn (l .«content_format_id»)))
 
--- 8: a byte of a text that is not printable
-abbrev pub unprintableAt : Option ℕ → List Check
-unprintableAt none = []
-unprintableAt (some index) = TextNotAccepted when true ∷ []
+-- 16: "a byte not printable", with "the index of the first byte outside 20 to 7E hex"
+abbrev pub notPrintableAt : Option ℕ → List Check
+notPrintableAt none = []
+notPrintableAt (some index) = ByteNotPrintable index when true ∷ []
 
+-- 02, F-1: "8 for a text sent to a field that isn't a text", "15, text longer than its field; 16, a byte not printable. Both
+-- stand where 8 stood, in the order 8, 15, 16."
 abbrev pub textChecks : LuminaireField → List ℕ → List Check
 textChecks f text =
-    TextNotAccepted when not (isTextKind (f .kind))
-    ∷ TextNotAccepted when ltb (f .len) (length text)
-    ∷ unprintableAt (firstNotPrintable text)
+    FieldNotText when not (isTextKind (f .kind))
+    ∷ TextTooLong when ltb (f .len) (length text)
+    ∷ notPrintableAt (firstNotPrintable text)
+
+-- an index of a text whose byte is outside 20 to 7E hex, with every byte before it inside
+pub record FirstOutside (text : List ℕ) (index : ℕ) : Type 0 where
+  pub byte : ℕ
+  pub at-index : getElem? text index ≡ some byte
+  pub outside : 0x20 ≤ byte → 0x7E < byte
+  pub inside-before : (i b : ℕ) → i < index → getElem? text i ≡ some b → (0x20 ≤ b) × (b ≤ 0x7E)
+
+pub record TakenText (f : LuminaireField) (text : List ℕ) : Type 0 where
+  -- A text is refused by none of these checks exactly where `accepts_text` takes it.
+  pub accepted : acceptsText f text ≡ true → firstOf (textChecks f text) ≡ none
+  pub only : firstOf (textChecks f text) ≡ none → acceptsText f text ≡ true
+  -- 16 tells the first byte outside; "Length is tested before letters", so that its index is below the field's length.
+  pub first-outside : (index : ℕ) → firstOf (textChecks f text) ≡ some (ByteNotPrintable index) → FirstOutside text index
+  pub below-length : (index : ℕ) → firstOf (textChecks f text) ≡ some (ByteNotPrintable index) → index < f .len
+
+abbrev pub TextTakenExactly : Type 0
+TextTakenExactly = (f : LuminaireField) (text : List ℕ) → TakenText f text

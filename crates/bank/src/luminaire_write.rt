@@ -364,13 +364,15 @@ impl LuminaireField {
         ensures { λ r. ⌜ r ≡ optionRefusal (firstOf (textChecks self (now (text .entry)))) ⌝ }
     {
         if !self.is_text() {
-            return OptionRefusal::Some(Refusal::TextNotAccepted);
+            return OptionRefusal::Some(Refusal::FieldNotText);
         }
         if (self.len as usize) < text.len() {
-            return OptionRefusal::Some(Refusal::TextNotAccepted);
+            return OptionRefusal::Some(Refusal::TextTooLong);
         }
         match first_not_printable(text) {
-            OptionUsize::Some(_) => OptionRefusal::Some(Refusal::TextNotAccepted),
+            OptionUsize::Some(index) => {
+                OptionRefusal::Some(Refusal::ByteNotPrintable(index as u8))
+            }
             OptionUsize::None => OptionRefusal::None,
         }
     }

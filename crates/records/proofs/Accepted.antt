@@ -42,10 +42,10 @@ module _ (p : Plan) (text : List ℕ) (sound : firstOf (planChecks p text) ≡ n
   unfolding planChecks
   field-sound = none-gather (fieldChecks p text) luminaireFields (none-second (unknownBits p ∷ unknownField p ∷ []) (gather (fieldChecks p text) luminaireFields) sound) i e
 
-  number-sound : {value : ℕ} → wantedNumber (p .numbers) (f .kind) ≡ some value → firstOf (numberChecks (p .layout) f value) ≡ none
+  pub number-sound : {value : ℕ} → wantedNumber (p .numbers) (f .kind) ≡ some value → firstOf (numberChecks (p .layout) f value) ≡ none
   number-sound w = rw w at (none-first ofNumber ofText field-sound)
 
-  text-sound : isFor (p .«text_field») i ≡ true → firstOf (writeTextChecks (p .layout) f text) ≡ none
+  pub text-sound : isFor (p .«text_field») i ≡ true → firstOf (writeTextChecks (p .layout) f text) ≡ none
   text-sound w = rw w at (none-second ofNumber ofText field-sound)
 
   pub accepted-number :

@@ -10,6 +10,7 @@ pub mod Order
 pub mod Cutting
 pub mod Planned
 pub mod Plans
+pub mod TextRefusals
 pub mod Numbers
 pub mod Wanted
 pub mod Held

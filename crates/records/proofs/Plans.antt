@@ -68,7 +68,7 @@ module _ (p : Plan) (text os vs : List ℕ) where
 
 -- ---- where a plan is accepted
 
-no-error : {A : Type 0} {r : Refusal} {n : ℕ} → Err r ≡ Ok n → A
+pub no-error : {A : Type 0} {r : Refusal} {n : ℕ} → Err r ≡ Ok n → A
 no-error e =
     let z : _≡_ {A = ℕ} 0 1 = cc in
     let y : ⊥ = omega arith in

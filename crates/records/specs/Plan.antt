@@ -1,23 +1,23 @@
 -- 01, "The plan, where a write enters": whether a plan is refused, and what it answers.
 -- Assumes nothing.
 use mathlib.Core.Path.{_≡_}
-use mathlib.Core.Bool.{Bool, false, not, cond, _||_}
+use mathlib.Core.Bool.{Bool, true, false, not, cond, _||_}
 use mathlib.Core.List.{List, [], _∷_, _++_}
 use mathlib.Core.Option.{Option, none, some}
-use Prim.Native.Nat.{ℕ, _≤_}
+use Prim.Native.Nat.{ℕ, _≤_, _<_}
 use lib.Dec.{ltb}
-use lib.ListN.{length, drop}
+use lib.ListN.{length, drop, getElem?}
 use Rattle.bus.specs.declared.OptionU8.{OptionU8}
 use Rattle.bus.specs.declared.part251.LuminaireFormat.{LuminaireFormat}
 use Rattle.bus.specs.Value.{laidInto}
 use Rattle.bank.specs.declared.OptionUsize.{OptionUsize}
 use Rattle.bank.specs.declared.refusal.Refusal.{Refusal}
-use Rattle.bank.specs.declared.refusal.Refusal.the-variants.{NumberNotAccepted, UnknownMaskBits, UnknownField, SliceTooShort}
+use Rattle.bank.specs.declared.refusal.Refusal.the-variants.{NumberNotAccepted, UnknownMaskBits, UnknownField, SliceTooShort, ByteNotPrintable}
 use Rattle.bank.specs.declared.luminaire_write.LuminaireField.{LuminaireField}
 use Rattle.bank.specs.declared.luminaire_write.Bank1Layout.{Bank1Layout}
 use Rattle.bank.specs.Refusal.{Check, _when_, firstOf, checked}
-use Rattle.bank.specs.Fields.{luminaireFields, acceptsNumber}
-use Rattle.bank.specs.Writable.{formatIn, writeChecks, textChecks}
+use Rattle.bank.specs.Fields.{luminaireFields, acceptsNumber, acceptsText}
+use Rattle.bank.specs.Writable.{formatIn, writeChecks, textChecks, FirstOutside}
 use Rattle.records.specs.declared.ResultUsize.{ResultUsize}
 use Rattle.records.specs.declared.luminaire_write.Plan.{Plan}
 use Rattle.records.specs.Writes.{wantedNumber, isFor, gather, Store, Each, offsetsOf, valuesOf, planStores}
@@ -31,7 +31,7 @@ rejects (some v) f value = not (acceptsNumber f v value)
 abbrev pub numberChecks : Bank1Layout → LuminaireField → ℕ → List Check
 numberChecks l f value = writeChecks l f ++ NumberNotAccepted when rejects (formatIn (l .«content_format_id»)) f value ∷ []
 
--- "or 8"
+-- "or 8"; 02, F-1: "Both stand where 8 stood, in the order 8, 15, 16."
 abbrev pub writeTextChecks : Bank1Layout → LuminaireField → List ℕ → List Check
 writeTextChecks l f text = writeChecks l f ++ textChecks f text
 
@@ -110,3 +110,37 @@ abbrev pub EveryStoreInBank : Type 0
 EveryStoreInBank =
     (p : Plan) (text : List ℕ) (last : ℕ) →
     firstOf (planChecks p text) ≡ none → p .layout .«last_offset» ≡ OptionU8.Some last → Each (λ (s : Store). s .offset ≤ last) (storesOf p text)
+
+-- What a plan was asked before 8 was parted in three: no check of 9, 10, 1 to 6 and 7 applies, and each wanted text is one that
+-- `accepts_text` takes.
+pub record AsBefore (p : Plan) (text : List ℕ) : Type 0 where
+  pub no-9 : unknownBits p .applies ≡ false
+  pub no-10 : unknownField p .applies ≡ false
+  pub no-1-to-7 : (place : ℕ) (f : LuminaireField) (value : ℕ) → getElem? luminaireFields place ≡ some f
+      → wantedNumber (p .numbers) (f .kind) ≡ some value → firstOf (numberChecks (p .layout) f value) ≡ none
+  pub no-1-to-6 : (place : ℕ) (f : LuminaireField) → getElem? luminaireFields place ≡ some f
+      → isFor (p .«text_field») place ≡ true → firstOf (writeChecks (p .layout) f) ≡ none
+  pub text-taken : (place : ℕ) (f : LuminaireField) → getElem? luminaireFields place ≡ some f
+      → isFor (p .«text_field») place ≡ true → acceptsText f text ≡ true
+
+-- 02, F-1: "Plans are accepted as before"
+pub record AcceptedAsBefore (p : Plan) (text os vs : List ℕ) : Type 0 where
+  pub accepted : AsBefore p text → length (storesOf p text) ≤ length os → length (storesOf p text) ≤ length vs
+      → planned p text os vs ≡ ResultUsize.Ok (length (storesOf p text))
+  pub only : (count : ℕ) → planned p text os vs ≡ ResultUsize.Ok count → AsBefore p text
+
+abbrev pub PlansAcceptedAsBefore : Type 0
+PlansAcceptedAsBefore = (p : Plan) (text os vs : List ℕ) → AcceptedAsBefore p text os vs
+
+-- Where 16 is answered, the byte at its index is outside 20 to 7E hex and every byte before it is inside; the index is below the
+-- length of the text's field.
+pub record RefusedByte (p : Plan) (text : List ℕ) (index : ℕ) : Type 0 where
+  pub place : ℕ
+  pub field : LuminaireField
+  pub in-table : getElem? luminaireFields place ≡ some field
+  pub is-wanted : isFor (p .«text_field») place ≡ true
+  pub first-outside : FirstOutside text index
+  pub below-length : index < field .len
+
+abbrev pub FirstUnprintable : Type 0
+FirstUnprintable = (p : Plan) (text os vs : List ℕ) (index : ℕ) → planned p text os vs ≡ ResultUsize.Err (ByteNotPrintable index) → RefusedByte p text index
