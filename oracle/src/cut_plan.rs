@@ -105,15 +105,20 @@ fn whole(rng: &mut Rng, id: u16, length: usize, wanted: Wanted, cut: usize) -> C
 /// What the person, the luminaire or the caller can be refused for.
 fn refused(rng: &mut Rng) -> Vec<CutPlan> {
     let year = &LUMINAIRE_FIELDS[1];
+    let full_but_last = [&[b'A'; 23][..], b"\n"].concat();
     let wanted = [
         Wanted { numbers: with_bit(11), ..Wanted::NOTHING },
         Wanted { numbers: with_bit(15), ..Wanted::text(18, b"A") },
         Wanted::text(0, b"A"),
         Wanted::text(1, b"A"),
+        Wanted::text(1, b"A\n"),
         Wanted::text(18, b"A"),
         Wanted::text(usize::MAX, b"A"),
         Wanted::text(11, &[b'A'; 25]),
+        Wanted::text(11, &[b'\n'; 25]),
         Wanted::text(11, b"\n"),
+        Wanted::text(11, b"AB\x7FC\x80"),
+        Wanted::text(11, &full_but_last),
         Wanted::text(12, b"A"),
         Wanted::text(13, b"A"),
         Wanted::number(year, 100),

@@ -186,7 +186,7 @@ impl<T: Take> Take for Option<T> {
     }
 }
 
-/// A refusal puts its number, which is never 0.
+/// A refusal puts its number first, which is never 0.
 impl<T: Put, R: Put> Put for Result<T, R> {
     fn put(&self, line: &mut Line) {
         match self {

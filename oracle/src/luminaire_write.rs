@@ -1,8 +1,9 @@
-//! The functions of `banks/luminaire_write.rs`, and the plan over them. The writes, the plan and the rules are in the
-//! files of its folder.
+//! The functions of `banks/luminaire_write.rs`, and the plan over them. The writes, the plan, the rules and the texts are
+//! in the files of its folder.
 
 mod plan;
 mod rules;
+mod texts;
 mod wanted;
 mod writes;
 
@@ -19,6 +20,7 @@ use crate::part251::FORMATS;
 use crate::refusal::Refusal;
 use crate::rng::Rng;
 use plan::{plan_cases, planned, random_plan};
+use texts::{accepts_text, random_text, text_cases, TextCase};
 use wanted::mask_cases;
 use writes::{
     all_writes, every_mask, held_cases, random_held, random_write, random_writes, stages, write_cases, write_of,
@@ -27,6 +29,7 @@ use writes::{
 
 pub use plan::{longest, planned_stores, random_layout_and_wanted, wanting, with_bit};
 pub use rules::SHOWS_BACK;
+pub use texts::{places, printable, TELLING_BYTES, TEXT_REFUSAL};
 pub use wanted::{accepted_number, number_fields, random_wanted, telling_u32s, text_fields, Numbers, Wanted};
 
 pub const FUNCTIONS: &[&dyn Function] = &[
@@ -340,84 +343,6 @@ fn random_number(source: &mut Source) -> NumberCase {
         _ => (rng.number() & !fitting) | rng.below(101) as u64,
     };
     (field, value, rng.one_of(&FORMATS))
-}
-
-type TextCase = (LuminaireField, Vec<u8>);
-
-/// The Rust takes text. Bytes that are no UTF-8 have one from 80 hex on, which its rule never accepts.
-fn accepts_text(field: &LuminaireField, bytes: &[u8]) -> bool {
-    std::str::from_utf8(bytes).is_ok_and(|text| field.accepts_text(text))
-}
-
-fn text_cases(source: &mut Source) -> Vec<TextCase> {
-    let mut cases = Vec::new();
-    for field in LUMINAIRE_FIELDS {
-        for length in text_lengths(source.scale, usize::from(field.len)) {
-            cases.push((field, printable(&mut source.rng, length)));
-        }
-        if let FieldKind::Text(_) = field.kind {
-            texts_with_another_byte(source, field, &mut cases);
-            texts_with_a_letter(source, field, &mut cases);
-        }
-    }
-    cases
-}
-
-/// Those around the field's own, and at full scale two past that of every field.
-fn text_lengths(scale: Scale, len: usize) -> Vec<usize> {
-    let around = [0, 1, len - 1, len, len + 1];
-    let more = scale.pick(vec![61, 65], vec![]);
-    around.into_iter().chain(more).collect()
-}
-
-/// The bytes around the printable ones, and the first and last of all.
-pub const TELLING_BYTES: [u8; 7] = [0x00, 0x1F, 0x20, 0x7E, 0x7F, 0x80, 0xFF];
-
-/// Texts that fill the field, with any byte at any place.
-fn texts_with_another_byte(source: &mut Source, field: LuminaireField, cases: &mut Vec<TextCase>) {
-    let bytes: Vec<u8> = source.scale.pick((0..=u8::MAX).collect(), TELLING_BYTES.to_vec());
-    for place in places(source.scale, usize::from(field.len)) {
-        for byte in &bytes {
-            cases.push((field, printable_but(&mut source.rng, field, place, &[*byte])));
-        }
-    }
-}
-
-/// The letter é: UTF-8, and no byte of it is printable.
-const LETTER: &[u8] = &[0xC3, 0xA9];
-
-/// Texts that fill the field, with the letter at any place.
-fn texts_with_a_letter(source: &mut Source, field: LuminaireField, cases: &mut Vec<TextCase>) {
-    for place in places(source.scale, usize::from(field.len) - 1) {
-        cases.push((field, printable_but(&mut source.rng, field, place, LETTER)));
-    }
-}
-
-/// Every place below the end, or the first and the last.
-pub fn places(scale: Scale, end: usize) -> Vec<usize> {
-    scale.pick((0..end).collect(), vec![0, end - 1])
-}
-
-pub fn printable(rng: &mut Rng, length: usize) -> Vec<u8> {
-    (0..length).map(|_| b' ' + rng.below(95) as u8).collect()
-}
-
-/// A text that fills the field, printable but for these bytes at this place.
-fn printable_but(rng: &mut Rng, field: LuminaireField, place: usize, bytes: &[u8]) -> Vec<u8> {
-    let mut text = printable(rng, usize::from(field.len));
-    text[place..place + bytes.len()].copy_from_slice(bytes);
-    text
-}
-
-fn random_text(source: &mut Source) -> TextCase {
-    let rng = &mut source.rng;
-    let field = rng.one_of(&LUMINAIRE_FIELDS);
-    let length = rng.below(usize::from(field.len) + 3);
-    let text = printable(rng, length);
-    let (before, after) = text.split_at(rng.below(length + 1));
-    let byte = [rng.number() as u8];
-    let between = rng.one_of(&[&byte, LETTER, &[], &[]]);
-    (field, [before, between, after].concat())
 }
 
 fn header_cases(source: &mut Source) -> Vec<Vec<u8>> {

@@ -7,7 +7,7 @@ use dali2rust_domain::dali::banks::layout::chunk_len;
 
 use crate::function::{Function, Row, Scale, Source};
 use crate::line::{Args, Line, Output, Put, Take};
-use crate::luminaire_write::SHOWS_BACK;
+use crate::luminaire_write::{SHOWS_BACK, TEXT_REFUSAL};
 use crate::refusal::Refusal;
 use crate::rng::Rng;
 use calls::{answered, list_cases, random_list};
@@ -20,8 +20,9 @@ pub const FUNCTIONS: &[&dyn Function] = &[
     &Row::new(0x42, "ReadOut::wanting", |(read_out, budget)| wanting(read_out, budget), want_cases).random(random_want),
     &Row::new(0x43, "ReadOut::accepting", accepted, accept_cases).random(random_accept),
     &Row::new(0x44, "call_list::run", answered, list_cases).random(random_list),
-    // The numbers of its own file are used up.
+    // The numbers of their own file are used up.
     &SHOWS_BACK,
+    &TEXT_REFUSAL,
 ];
 
 /// Any three numbers, also those that no call hands out.

@@ -429,6 +429,11 @@ pub(crate) fn put_option_format(text: &mut [u8], n: usize, format: OptionLuminai
     }
 }
 
+// Its number, and the value that it carries.
 pub(crate) fn put_refusal(text: &mut [u8], n: usize, refusal: Refusal) -> usize {
-    put_u8(text, n, refusal.number())
+    let m = put_u8(text, n, refusal.number());
+    let OptionU8::Some(value) = refusal.value() else {
+        return m;
+    };
+    put_u8(text, m, value)
 }

@@ -8,6 +8,7 @@ use bank::LuminaireTextField;
 use bank::NumberRule;
 use bank::OptionBool;
 use bank::OptionLuminaireField;
+use bank::OptionRefusal;
 use bank::OptionU16;
 use bank::ResultLuminaireFormat;
 use bus::OptionU8;
@@ -49,6 +50,16 @@ pub(crate) fn shows_back(request: &[u8], text: &mut [u8], n: usize) -> usize {
     let rule = rule_at(request, 1);
     let raw = line::u64_at(request, 2);
     line::put_bool(text, n, rule.shows_back(raw, line::format_at(request, 10)))
+}
+
+// The refusal, or 0 for none.
+pub(crate) fn text_refusal(request: &[u8], text: &mut [u8], n: usize) -> usize {
+    let field = field_at(request, 1);
+    let letters = line::slice_at(request, field_end(request, 1));
+    let OptionRefusal::Some(refusal) = field.text_refusal(letters) else {
+        return line::put_u8(text, n, 0);
+    };
+    line::put_refusal(text, n, refusal)
 }
 
 fn check_writable(request: &[u8], text: &mut [u8], n: usize) -> usize {

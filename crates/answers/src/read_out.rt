@@ -15,8 +15,9 @@ pub(crate) fn answer(number: u8, request: &[u8], text: &mut [u8], n: usize) -> u
         0x42 => wanting(request, text, n),
         0x43 => accepting(request, text, n),
         0x44 => run(request, text, n),
-        // The numbers of its own file are used up.
+        // The numbers of their own file are used up.
         0x47 => luminaire_write::shows_back(request, text, n),
+        0x48 => luminaire_write::text_refusal(request, text, n),
         _ => n,
     }
 }

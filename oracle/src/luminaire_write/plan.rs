@@ -4,10 +4,11 @@ use dali2rust_domain::dali::banks::luminaire_write::{
     check_writable, Bank1Layout, FieldKind, FieldWrite, LuminaireField, NumberRule, WriteStage, LUMINAIRE_FIELDS,
 };
 
+use super::texts::{check_accepted, foreign_texts, TELLING_BYTES};
 use super::wanted::{random_wanted, telling_u32s, text_fields, texts_of_lengths, Numbers, Wanted, ALL};
 use super::writes::random_more;
-use super::{accepts_text, in_telling_formats, index_of, indices, random_layout, telling_layouts, TELLING_BYTES};
-use crate::function::Source;
+use super::{in_telling_formats, index_of, indices, random_layout, telling_layouts};
+use crate::function::{Scale, Source};
 use crate::line::Output;
 use crate::refusal::Refusal;
 use crate::rng::Rng;
@@ -44,10 +45,7 @@ fn check_number(layout: &Bank1Layout, field: &LuminaireField, number: u32) -> Re
 
 fn check_text(layout: &Bank1Layout, field: &LuminaireField, text: &[u8]) -> Result<(), Refusal> {
     check_writable(layout, field).map_err(Refusal::NotWritable)?;
-    if !accepts_text(field, text) {
-        return Err(Refusal::TextNotAccepted);
-    }
-    Ok(())
+    check_accepted(field, text)
 }
 
 /// Every byte of every stage of every write.
@@ -87,7 +85,7 @@ const ALL_WRITABLE: Bank1Layout =
     Bank1Layout { implemented: Some(true), content_format_id: Some(5), last_offset: Some(0xC9) };
 
 pub fn plan_cases(source: &mut Source) -> Vec<PlanCase> {
-    let mut asked = in_layouts();
+    let mut asked = in_layouts(source.scale);
     asked.extend(numbers_in_formats());
     asked.extend(texts(source).into_iter().map(|wanted| (ALL_WRITABLE, wanted)));
     asked.extend((11..16).map(|bit| (ALL_WRITABLE, Wanted { numbers: with_bit(bit), ..Wanted::NOTHING })));
@@ -101,12 +99,17 @@ pub fn plan_cases(source: &mut Source) -> Vec<PlanCase> {
     cases
 }
 
-/// Each field, and none, in layouts that just allow it or lack something.
-fn in_layouts() -> Vec<Asked> {
+/// Each field, and none, in layouts that just allow it or lack something; at full scale also with texts that no field
+/// accepts.
+fn in_layouts(scale: Scale) -> Vec<Asked> {
+    let refused = scale.pick(vec![b"\n".to_vec(), vec![b'A'; 61], vec![b'\n'; 61]], vec![]);
     let mut asked = Vec::new();
     for field in LUMINAIRE_FIELDS {
-        let layouts = telling_layouts(field).into_iter();
-        asked.extend(layouts.map(|layout| (layout, wanting(&field))));
+        let mut wanted = vec![wanting(&field)];
+        wanted.extend(refused.iter().map(|text| Wanted::text(index_of(&field), text)));
+        for layout in telling_layouts(field) {
+            asked.extend(wanted.iter().map(|wanted| (layout, wanted.clone())));
+        }
     }
     let layouts = telling_layouts(LUMINAIRE_FIELDS[0]).into_iter();
     asked.extend(layouts.map(|layout| (layout, Wanted::NOTHING)));
@@ -146,6 +149,7 @@ fn texts(source: &mut Source) -> Vec<Wanted> {
         texts.extend(TELLING_BYTES.map(|byte| Wanted::text(index, &[byte, b'A', b'B'])));
         texts.extend(TELLING_BYTES.map(|byte| Wanted::text(index, &[b'A', b'B', byte])));
     }
+    texts.extend(foreign_texts(source).into_iter().map(|(field, text)| Wanted::text(index_of(&field), &text)));
     texts
 }
 
@@ -171,6 +175,7 @@ fn in_order() -> Vec<Asked> {
         (ALL_WRITABLE, with_text(refused, 0, b"")),
         (ALL_WRITABLE, with_text(refused, 1, b"")),
         (ALL_WRITABLE, with_text(numbers, 1, b"")),
+        (ALL_WRITABLE, with_text(numbers, 1, b"\n\n")),
         (ALL_WRITABLE, with_text(refused, 11, b"\n")),
         (ALL_WRITABLE, with_text(numbers, 11, b"\n")),
         (ALL_WRITABLE, with_text(last_refused, 15, b"\n")),
@@ -181,9 +186,11 @@ fn in_order() -> Vec<Asked> {
         (in_format(4), with_text(last_refused, 13, b"A")),
         (in_format(4), with_text(refused, 14, b"A")),
         (in_format(4), with_text(numbers, 14, b"\n")),
+        (in_format(4), with_text(numbers, 14, &[b'\n'; 61])),
         (in_format(6), with_text(refused, 11, b"\n")),
         (to_year, with_text(refused, 11, b"\n")),
         (to_year, with_text(numbers, 11, b"\n")),
+        (to_year, with_text(numbers, 11, &[b'\n'; 25])),
     ]
 }
 

@@ -5,7 +5,8 @@ use dali2rust_domain::dali::banks::luminaire_write::{
     number_patch, planned_writes, FieldKind, FieldWrite, LuminaireField, NumberRule, LUMINAIRE_FIELDS,
 };
 
-use super::{bit_of, end_of_bytes, index_of, index_of_text, printable, telling_numbers, PATCHES, TEXTS};
+use super::texts::{printable, put_any_bytes};
+use super::{bit_of, end_of_bytes, index_of, index_of_text, telling_numbers, PATCHES, TEXTS};
 use crate::function::Source;
 use crate::line::{Args, Line, Put, Take};
 use crate::rng::Rng;
@@ -249,8 +250,11 @@ fn random_text(rng: &mut Rng, index: Option<usize>) -> Vec<u8> {
         _ => rng.below(len + 1),
     };
     let mut text = printable(rng, length);
-    if length > 0 && rng.below(8) == 0 {
-        text[rng.below(length)] = rng.number() as u8;
-    }
+    let count = match rng.below(16) {
+        0 => 1,
+        1 => 2 + rng.below(4),
+        _ => 0,
+    };
+    put_any_bytes(rng, &mut text, count);
     text
 }

@@ -37,8 +37,9 @@ pub type Case = (String, Vec<u8>);
 type ToldCase = (String, Told);
 
 pub fn stored_cases() -> Vec<Case> {
-    let told = [plain(), refused(), in_formats(), at_last_offsets(), numbers(), texts(), text_bytes(), in_order()];
-    let files = told.into_iter().flatten().map(|(name, told)| (name, file_of(&told)));
+    let told = [plain(), refused(), in_formats(), at_last_offsets(), numbers()];
+    let told = told.into_iter().chain([texts(), text_bytes(), foreign_texts(), in_order()]);
+    let files = told.flatten().map(|(name, told)| (name, file_of(&told)));
     files.chain(bad_files()).collect()
 }
 
@@ -158,6 +159,20 @@ fn text_bytes() -> Vec<ToldCase> {
     cases
 }
 
+/// Identifications with several foreign bytes, or with one at the field's last place. The last is two bytes too long.
+fn foreign_texts() -> Vec<ToldCase> {
+    let last = with_bytes(&letters(60), 59, b"\n");
+    let first_and_last = with_bytes(&last, 0, &[0xFF]);
+    let texts = [
+        ("text_with_several_foreign_bytes", b"AB\x7FC\x00D\xFFE".to_vec()),
+        ("full_text_with_foreign_last_byte", last),
+        ("full_text_with_foreign_first_and_last_byte", first_and_last),
+        ("text_of_30_letters_of_two_bytes", "é".repeat(30).into_bytes()),
+        ("text_of_31_letters_of_two_bytes", "é".repeat(31).into_bytes()),
+    ];
+    texts.map(|(name, text)| case(name, Wanted::text(12, &text))).to_vec()
+}
+
 /// Files with several reasons for a refusal: the name says which comes first.
 fn in_order() -> Vec<ToldCase> {
     let [year, lamp_current] = [1, 16].map(|index| &LUMINAIRE_FIELDS[index]);
@@ -165,6 +180,7 @@ fn in_order() -> Vec<ToldCase> {
     let refused = Numbers::NONE.with(year, 100);
     let last_refused = Numbers::NONE.with(lamp_current, 0xFFFF);
     let with_text = |numbers, index, text: &[u8]| Wanted { numbers, ..Wanted::text(index, text) };
+    let foreign_at = |place| with_bytes(&letters(25), place, b"\n");
     vec![
         case("mask_before_text_index", with_text(with_bit(11), 18, b"")),
         case("text_index_before_number", with_text(refused, 18, b"")),
@@ -172,6 +188,7 @@ fn in_order() -> Vec<ToldCase> {
         case("number_before_text_at_its_index", with_text(refused, 1, b"AB")),
         case("text_at_index_of_accepted_number", with_text(accepted, 1, b"AB")),
         case("text_at_index_of_unwanted_number", Wanted::text(1, b"AB")),
+        case("empty_text_at_index_of_unwanted_number", Wanted::text(1, b"")),
         case("number_before_text", with_text(refused, 11, b"\n")),
         case("text_behind_accepted_number", with_text(accepted, 11, b"\n")),
         case("text_before_number", with_text(last_refused, 15, b"\n")),
@@ -180,6 +197,12 @@ fn in_order() -> Vec<ToldCase> {
         in_format(case("number_not_in_format_behind_accepted_text", with_text(last_refused, 11, b"AB")), 4),
         in_format(case("number_before_text_not_in_format", with_text(refused, 14, b"AB")), 4),
         in_format(case("text_not_in_format_before_its_bytes", with_text(accepted, 14, b"\n")), 4),
+        in_format(case("text_not_in_format_before_its_length", Wanted::text(14, &letters(61))), 4),
+        case("text_at_layout_id_before_its_length_and_bytes", Wanted::text(0, b"\n\n\n")),
+        case("text_at_number_before_its_length_and_bytes", Wanted::text(1, b"\n\n")),
+        case("text_length_before_its_bytes", Wanted::text(11, &foreign_at(0))),
+        case("text_length_before_its_last_byte_in_the_field", Wanted::text(11, &foreign_at(23))),
+        case("text_length_before_its_byte_past_the_field", Wanted::text(11, &foreign_at(24))),
     ]
 }
 
