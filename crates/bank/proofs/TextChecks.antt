@@ -13,11 +13,11 @@ use Rattle.bus.proofs.Tests.{by-test, no-yes}
 use Rattle.bus.proofs.Lists.{no-element}
 use Rattle.bank.specs.declared.luminaire_write.LuminaireField.{LuminaireField}
 use Rattle.bank.specs.declared.refusal.Refusal.{Refusal}
-use Rattle.bank.specs.declared.refusal.Refusal.the-variants.{ByteNotPrintable}
+use Rattle.bank.specs.declared.refusal.Refusal.the-variants.{FieldNotText, TextTooLong, ByteNotPrintable}
 use Rattle.bank.specs.Refusal.{valueOf, firstOf}
 use Rattle.bank.specs.Fields.{printable, firstNotPrintable, isTextKind, acceptsText}
 use Rattle.bank.specs.Writable.{notPrintableAt, textChecks, FirstOutside, TextTakenExactly}
-use Rattle.bank.proofs.Texts.{printable-none, none-printable, found-first, found-below}
+use Rattle.bank.proofs.Texts.{printable-none, none-printable, found-first, found-below, first-found}
 
 abbrev pub isNone : {A : Type 0} → Option A → Bool
 isNone none = true
@@ -84,9 +84,25 @@ module _ (f : LuminaireField) (text : List ℕ) {i : ℕ} (e : firstOf (textChec
   pub refused-first : FirstOutside text i
   refused-first = found-first text (found .1)
 
+module _ (f : LuminaireField) (text : List ℕ) where
+  kind-first : isTextKind (f .kind) ≡ false → firstOf (textChecks f text) ≡ some FieldNotText
+  unfolding firstOf
+  kind-first k = rw k
+
+  length-next : isTextKind (f .kind) ≡ true → f .len < length text → firstOf (textChecks f text) ≡ some TextTooLong
+  unfolding firstOf
+  length-next k h = rw (k, lt-ltb (f .len) (length text) h)
+
+  letters-last : {i : ℕ} → isTextKind (f .kind) ≡ true → length text ≤ f .len → firstNotPrintable text ≡ some i → firstOf (textChecks f text) ≡ some (ByteNotPrintable i)
+  unfolding firstOf
+  letters-last k h e = letters-left f text k h ∙ rw e
+
 pub text-taken-exactly : TextTakenExactly
 text-taken-exactly f text =
     record {
+      not-text = kind-first f text;
+      too-long = length-next f text;
+      not-printable = λ index k h o. letters-last f text k h (first-found text index o);
       accepted = text-passes f text;
       only = passed-text f text;
       first-outside = λ index e. refused-first f text e;

@@ -110,3 +110,20 @@ found-below (b ∷ bs) {i} e =
     (λ t.
     let is : 0 ≡ i = Option·some-injective _ _ (rw t at e) in
     omega arith)
+
+pub first-found : (bytes : List ℕ) (i : ℕ) → FirstOutside bytes i → firstNotPrintable bytes ≡ some i
+unfolding firstNotPrintable
+first-found [] i f = no-element (f .at-index)
+first-found (b ∷ bs) zero f =
+    by-test (isPrintable b)
+    (λ t.
+    let low = inside b t in
+    let is : b ≡ f .byte = Option·some-injective _ _ (f .at-index) in
+    let high = f .outside (omega (arith, low .0)) in
+    let z : ⊥ = omega (arith, low .1) in
+    absurd z)
+    (λ t. rw t)
+first-found (b ∷ bs) (suc i) f =
+    let first = f .inside-before 0 b (omega arith) refl in
+    let later : FirstOutside bs i = record { byte = f .byte; at-index = f .at-index; outside = f .outside; inside-before = λ j c h e. f .inside-before (suc j) c (omega arith) e } in
+    rw (le-leb 0x20 b (first .0), le-leb b 0x7E (first .1)) (ap (Option·map suc) (first-found bs i later))

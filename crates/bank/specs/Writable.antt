@@ -95,11 +95,15 @@ pub record FirstOutside (text : List ℕ) (index : ℕ) : Type 0 where
   pub outside : 0x20 ≤ byte → 0x7E < byte
   pub inside-before : (i b : ℕ) → i < index → getElem? text i ≡ some b → (0x20 ≤ b) × (b ≤ 0x7E)
 
+-- What is answered for a text, each cause where its fact holds and none before it does.
 pub record TakenText (f : LuminaireField) (text : List ℕ) : Type 0 where
-  -- A text is refused by none of these checks exactly where `accepts_text` takes it.
+  pub not-text : isTextKind (f .kind) ≡ false → firstOf (textChecks f text) ≡ some FieldNotText
+  pub too-long : isTextKind (f .kind) ≡ true → f .len < length text → firstOf (textChecks f text) ≡ some TextTooLong
+  pub not-printable : (index : ℕ) → isTextKind (f .kind) ≡ true → length text ≤ f .len → FirstOutside text index → firstOf (textChecks f text) ≡ some (ByteNotPrintable index)
+  -- none exactly where `accepts_text` takes the text
   pub accepted : acceptsText f text ≡ true → firstOf (textChecks f text) ≡ none
   pub only : firstOf (textChecks f text) ≡ none → acceptsText f text ≡ true
-  -- 16 tells the first byte outside; "Length is tested before letters", so that its index is below the field's length.
+  -- where 16 is answered; "Length is tested before letters", so its index is below the field's length
   pub first-outside : (index : ℕ) → firstOf (textChecks f text) ≡ some (ByteNotPrintable index) → FirstOutside text index
   pub below-length : (index : ℕ) → firstOf (textChecks f text) ≡ some (ByteNotPrintable index) → index < f .len
 
