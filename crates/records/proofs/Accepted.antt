@@ -25,28 +25,32 @@ use Rattle.records.specs.declared.luminaire_write.Plan.{Plan}
 use Rattle.records.specs.Writes.{gather, numberFor, wantedNumber, isFor, bytesFor}
 use Rattle.records.specs.Plan.{numberChecks, writeTextChecks, ifWanted, fieldChecks, unknownBits, unknownField, planChecks}
 
+-- the checks of a plan in their parts: its head, a field's number, a field's text
+abbrev pub headChecks : Plan → List Check
+headChecks p = unknownBits p ∷ unknownField p ∷ []
+
+abbrev pub ofNumber : Plan → LuminaireField → List Check
+ofNumber p f = ifWanted (wantedNumber (p .numbers) (f .kind)) (numberChecks (p .layout) f)
+
+abbrev pub ofText : Plan → List ℕ → ℕ → LuminaireField → List Check
+ofText p text i f = cond (isFor (p .«text_field») i) (writeTextChecks (p .layout) f text) []
+
 none-gather : (g : ℕ → LuminaireField → List Check) (fs : List LuminaireField) → firstOf (gather g fs) ≡ none → (i : ℕ) {f : LuminaireField} → getElem? fs i ≡ some f → firstOf (g i f) ≡ none
 none-gather g [] e i m = no-element m
 none-gather g (h ∷ fs) e zero m = subst (λ (f : LuminaireField). firstOf (g 0 f) ≡ none) (Option·some-injective _ _ m) (none-first (g 0 h) (gather (λ i. g (suc i)) fs) e)
 none-gather g (h ∷ fs) e (suc i) m = none-gather (λ i. g (suc i)) fs (none-second (g 0 h) (gather (λ i. g (suc i)) fs) e) i m
 
 module _ (p : Plan) (text : List ℕ) (sound : firstOf (planChecks p text) ≡ none) (i : ℕ) {f : LuminaireField} (e : getElem? luminaireFields i ≡ some f) where
-  abbrev ofNumber : List Check
-  ofNumber = ifWanted (wantedNumber (p .numbers) (f .kind)) (numberChecks (p .layout) f)
-
-  abbrev ofText : List Check
-  ofText = cond (isFor (p .«text_field») i) (writeTextChecks (p .layout) f text) []
-
   -- neither a field's number nor its text is refused
   field-sound : firstOf (fieldChecks p text i f) ≡ none
   unfolding planChecks
-  field-sound = none-gather (fieldChecks p text) luminaireFields (none-second (unknownBits p ∷ unknownField p ∷ []) (gather (fieldChecks p text) luminaireFields) sound) i e
+  field-sound = none-gather (fieldChecks p text) luminaireFields (none-second (headChecks p) (gather (fieldChecks p text) luminaireFields) sound) i e
 
   pub number-sound : {value : ℕ} → wantedNumber (p .numbers) (f .kind) ≡ some value → firstOf (numberChecks (p .layout) f value) ≡ none
-  number-sound w = rw w at (none-first ofNumber ofText field-sound)
+  number-sound w = rw w at (none-first (ofNumber p f) (ofText p text i f) field-sound)
 
   pub text-sound : isFor (p .«text_field») i ≡ true → firstOf (writeTextChecks (p .layout) f text) ≡ none
-  text-sound w = rw w at (none-second ofNumber ofText field-sound)
+  text-sound w = rw w at (none-second (ofNumber p f) (ofText p text i f) field-sound)
 
   pub accepted-number :
       {patch value : ℕ} {r : NumberRule} {v : LuminaireFormat} → f .kind ≡ Number patch r → numberFor (p .numbers) patch ≡ some value →

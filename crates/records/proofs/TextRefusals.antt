@@ -11,6 +11,7 @@ use Rattle.bus.proofs.Lists.{no-element}
 use Rattle.bank.specs.declared.refusal.Refusal.{Refusal}
 use Rattle.bank.specs.declared.refusal.Refusal.the-variants.{ByteNotPrintable}
 use Rattle.bank.specs.declared.luminaire_write.LuminaireField.{LuminaireField}
+use Rattle.bank.specs.declared.luminaire_write.Bank1Layout.{Bank1Layout}
 use Rattle.bank.specs.Refusal.{Check, valueOf, firstOf}
 use Rattle.bank.specs.Fields.{luminaireFields}
 use Rattle.bank.specs.Writable.{writeChecks, textChecks}
@@ -19,8 +20,8 @@ use Rattle.bank.proofs.TextChecks.{other, text-passes, text-taken-exactly}
 use Rattle.records.specs.declared.ResultUsize.the-variants.{Ok, Err}
 use Rattle.records.specs.declared.luminaire_write.Plan.{Plan}
 use Rattle.records.specs.Writes.{gather, wantedNumber, isFor}
-use Rattle.records.specs.Plan.{numberChecks, writeTextChecks, ifWanted, fieldChecks, unknownBits, unknownField, planChecks, storesOf, shortSlices, layChecks, planned, AsBefore, PlansAcceptedAsBefore, RefusedByte, FirstUnprintable}
-use Rattle.records.proofs.Accepted.{number-sound, text-sound, accepted-text}
+use Rattle.records.specs.Plan.{numberChecks, writeTextChecks, ifWanted, fieldChecks, planChecks, storesOf, shortSlices, layChecks, planned, AsBefore, PlansAcceptedAsBefore, RefusedByte, FirstUnprintable}
+use Rattle.records.proofs.Accepted.{headChecks, ofNumber, ofText, number-sound, text-sound, accepted-text}
 use Rattle.records.proofs.Plans.{no-error, passed-plan, plan-taken-exactly}
 use Rattle.records.proofs.Refusals.{first-none}
 
@@ -29,9 +30,6 @@ use Rattle.records.proofs.Refusals.{first-none}
 gather-passed : (g : ℕ → LuminaireField → List Check) (fs : List LuminaireField) → ((i : ℕ) (f : LuminaireField) → getElem? fs i ≡ some f → firstOf (g i f) ≡ none) → firstOf (gather g fs) ≡ none
 gather-passed g [] h = first-none
 gather-passed g (f ∷ fs) h = passed-first (g 0 f) (gather (λ i. g (suc i)) fs) (h 0 f refl) ∙ gather-passed (λ i. g (suc i)) fs (λ i. h (suc i))
-
-abbrev heads : Plan → List Check
-heads p = unknownBits p ∷ unknownField p ∷ []
 
 module _ (p : Plan) (text : List ℕ) where
   module _ (a : AsBefore p text) where
@@ -43,22 +41,22 @@ module _ (p : Plan) (text : List ℕ) where
     text-passed i f e false w = first-none
     text-passed i f e true w = passed-first (writeChecks (p .layout) f) (textChecks f text) (a .no-1-to-6 i f e w) ∙ text-passes f text (a .text-taken i f e w)
 
-    heads-passed : firstOf (heads p) ≡ none
+    heads-passed : firstOf (headChecks p) ≡ none
     unfolding firstOf
     heads-passed = rw (a .no-9, a .no-10)
 
     allowed : firstOf (planChecks p text) ≡ none
     unfolding planChecks
     allowed =
-        passed-first (heads p) (gather (fieldChecks p text) luminaireFields) heads-passed
+        passed-first (headChecks p) (gather (fieldChecks p text) luminaireFields) heads-passed
         ∙ gather-passed (fieldChecks p text) luminaireFields
-        (λ i f e. passed-first (ifWanted (wantedNumber (p .numbers) (f .kind)) (numberChecks (p .layout) f)) (cond (isFor (p .«text_field») i) (writeTextChecks (p .layout) f text) []) (number-passed i f e (wantedNumber (p .numbers) (f .kind)) refl)
+        (λ i f e. passed-first (ofNumber p f) (ofText p text i f) (number-passed i f e (wantedNumber (p .numbers) (f .kind)) refl)
         ∙ text-passed i f e (isFor (p .«text_field») i) refl)
 
   as-before : firstOf (planChecks p text) ≡ none → AsBefore p text
   unfolding planChecks
   as-before sound =
-      let first = passed (heads p) (none-first (heads p) (gather (fieldChecks p text) luminaireFields) sound) in
+      let first = passed (headChecks p) (none-first (headChecks p) (gather (fieldChecks p text) luminaireFields) sound) in
       record {
         no-9 = first .0;
         no-10 = first .1 .0;
@@ -81,10 +79,16 @@ abbrev Plain : List Check → Type 0
 Plain [] = Unit {0}
 Plain (c ∷ cs) = (valueOf (c .refusal) ≡ none) × Plain cs
 
-module _ (Q : ℕ → Type 0) where
-  -- where checks are refused by 16, Q holds of its index
+writes-plain : (l : Bank1Layout) (f : LuminaireField) → Plain (writeChecks l f)
+writes-plain l f = (refl, (refl, (refl, (refl, (refl, (refl, tt))))))
+
+number-plain : (l : Bank1Layout) (f : LuminaireField) (value : ℕ) → Plain (numberChecks l f value)
+number-plain l f value = (refl, (refl, (refl, (refl, (refl, (refl, (refl, tt)))))))
+
+module _ (p : Plan) (text : List ℕ) where
+  -- where these checks are refused by 16, its index is right
   abbrev Tells : List Check → Type 0
-  Tells cs = (i : ℕ) → firstOf cs ≡ some (ByteNotPrintable i) → Q i
+  Tells cs = (index : ℕ) → firstOf cs ≡ some (ByteNotPrintable index) → RefusedByte p text index
 
   plain-tells : (cs : List Check) → Plain cs → Tells cs
   unfolding firstOf
@@ -94,7 +98,7 @@ module _ (Q : ℕ → Type 0) where
   both-tell : (xs ys : List Check) → Tells xs → Tells ys → Tells (xs ++ ys)
   both-tell xs ys a b i e = go (firstOf xs) refl
     where
-      go : (o : Option Refusal) → firstOf xs ≡ o → Q i
+      go : (o : Option Refusal) → firstOf xs ≡ o → RefusedByte p text i
       go none n = b i (sym (passed-first xs ys n) ∙ e)
       go (some r) n = a i (n ∙ sym (refused-first xs ys n) ∙ e)
 
@@ -102,45 +106,40 @@ module _ (Q : ℕ → Type 0) where
   gather-tells g [] h = plain-tells [] tt
   gather-tells g (f ∷ fs) h = both-tell (g 0 f) (gather (λ i. g (suc i)) fs) (h 0 f refl) (gather-tells (λ i. g (suc i)) fs (λ i. h (suc i)))
 
-module _ (p : Plan) (text : List ℕ) where
-  abbrev Told : List Check → Type 0
-  Told = Tells (RefusedByte p text)
+  number-tells : (f : LuminaireField) (o : Option ℕ) → Tells (ifWanted o (numberChecks (p .layout) f))
+  number-tells f none = plain-tells [] tt
+  number-tells f (some value) = plain-tells (numberChecks (p .layout) f value) (number-plain (p .layout) f value)
 
-  writes-plain : (f : LuminaireField) → Plain (writeChecks (p .layout) f)
-  writes-plain f = (refl, (refl, (refl, (refl, (refl, (refl, tt))))))
-
-  number-told : (f : LuminaireField) (o : Option ℕ) → Told (ifWanted o (numberChecks (p .layout) f))
-  number-told f none = plain-tells (RefusedByte p text) [] tt
-  number-told f (some value) = plain-tells (RefusedByte p text) (numberChecks (p .layout) f value) (refl, (refl, (refl, (refl, (refl, (refl, (refl, tt)))))))
-
-  text-told : (i : ℕ) (f : LuminaireField) → getElem? luminaireFields i ≡ some f → (b : Bool) → isFor (p .«text_field») i ≡ b → Told (cond b (writeTextChecks (p .layout) f text) [])
-  text-told i f e false w = plain-tells (RefusedByte p text) [] tt
-  text-told i f e true w =
-      both-tell (RefusedByte p text) (writeChecks (p .layout) f) (textChecks f text) (plain-tells (RefusedByte p text) (writeChecks (p .layout) f) (writes-plain f))
-      (λ j r. record {
+  text-tells : (i : ℕ) (f : LuminaireField) → getElem? luminaireFields i ≡ some f → (b : Bool) → isFor (p .«text_field») i ≡ b → Tells (cond b (writeTextChecks (p .layout) f text) [])
+  text-tells i f e false w = plain-tells [] tt
+  text-tells i f e true w =
+      both-tell (writeChecks (p .layout) f) (textChecks f text) (plain-tells (writeChecks (p .layout) f) (writes-plain (p .layout) f))
+      (λ index r. record {
         place = i;
         field = f;
         in-table = e;
         is-wanted = w;
-        first-outside = text-taken-exactly f text .first-outside j r;
-        below-length = text-taken-exactly f text .below-length j r;
+        first-outside = text-taken-exactly f text .first-outside index r;
+        below-length = text-taken-exactly f text .below-length index r;
       })
 
-  checks-told : Told (planChecks p text)
+  plan-tells : Tells (planChecks p text)
   unfolding planChecks
-  checks-told =
-      both-tell (RefusedByte p text) (heads p) (gather (fieldChecks p text) luminaireFields) (plain-tells (RefusedByte p text) (heads p) (refl, (refl, tt)))
-      (gather-tells (RefusedByte p text) (fieldChecks p text) luminaireFields
-      (λ i f e. both-tell (RefusedByte p text) (ifWanted (wantedNumber (p .numbers) (f .kind)) (numberChecks (p .layout) f)) (cond (isFor (p .«text_field») i) (writeTextChecks (p .layout) f text) [])
-      (number-told f (wantedNumber (p .numbers) (f .kind))) (text-told i f e (isFor (p .«text_field») i) refl)))
+  plan-tells =
+      both-tell (headChecks p) (gather (fieldChecks p text) luminaireFields) (plain-tells (headChecks p) (refl, (refl, tt)))
+      (gather-tells (fieldChecks p text) luminaireFields
+      (λ i f e. both-tell (ofNumber p f) (ofText p text i f) (number-tells f (wantedNumber (p .numbers) (f .kind))) (text-tells i f e (isFor (p .«text_field») i) refl)))
 
 pub first-unprintable : FirstUnprintable
 unfolding planned
 first-unprintable p text os vs index e = go (firstOf (layChecks p text os vs)) refl
   where
+    slices : Check
+    slices = shortSlices (storesOf p text) os vs
+
     go : (o : Option Refusal) → firstOf (layChecks p text os vs) ≡ o → RefusedByte p text index
     go none f = no-error (sym (rw f at e))
     go (some r) f =
         let told : Err r ≡ Err (ByteNotPrintable index) = rw f at e in
         let same : r ≡ ByteNotPrintable index = cc in
-        both-tell (RefusedByte p text) (planChecks p text) (shortSlices (storesOf p text) os vs ∷ []) (checks-told p text) (plain-tells (RefusedByte p text) (shortSlices (storesOf p text) os vs ∷ []) (refl, tt)) index (f ∙ ap some same)
+        both-tell p text (planChecks p text) (slices ∷ []) (plan-tells p text) (plain-tells p text (slices ∷ []) (refl, tt)) index (f ∙ ap some same)
