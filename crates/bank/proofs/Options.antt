@@ -26,7 +26,7 @@ numberIn OptionU32.None = none
 pub told-u32 : (o : Option ℕ) {e t : OptionU32} → e ≡ optionU32 o → e ≡ t → o ≡ numberIn t
 told-u32 o h t = told optionU32 numberIn refl (λ n. refl) o h t
 
-abbrev pub indexIn : OptionUsize → Option ℕ
+abbrev indexIn : OptionUsize → Option ℕ
 indexIn (OptionUsize.Some n) = some n
 indexIn OptionUsize.None = none
 

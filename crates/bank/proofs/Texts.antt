@@ -1,9 +1,9 @@
 -- Laws of printable texts: the first byte that is not printable, and the first byte of a printable text.
 -- Assumes nothing.
-use mathlib.Core.Path.{_≡_, refl, sym, ap, subst}
+use mathlib.Core.Path.{_≡_, refl, sym, ap, _∙_, subst}
 use mathlib.Core.Bool.{true, false}
 use mathlib.Core.List.{List, [], _∷_}
-use mathlib.Core.Option.{none, some, Option·map, Option·some-injective, map-eq-none-iff, map-eq-some-iff}
+use mathlib.Core.Option.{Option, none, some, Option·map, Option·getD, Option·some-injective, map-eq-none-iff, map-eq-some-iff}
 use Prim.Native.Nat.{ℕ, zero, suc, _+_, _≤_, _<_}
 use native.Mathlib.Nat.{le-of-suc-le-suc, not-suc-le-zero}
 use native.Mathlib.Numerals.{add-one}
@@ -127,3 +127,27 @@ first-found (b ∷ bs) (suc i) f =
     let first = f .inside-before 0 b (omega arith) refl in
     let later : FirstOutside bs i = record { byte = f .byte; at-index = f .at-index; outside = f .outside; inside-before = λ j c h e. f .inside-before (suc j) c (omega arith) e } in
     rw (le-leb 0x20 b (first .0), le-leb b 0x7E (first .1)) (ap (Option·map suc) (first-found bs i later))
+
+-- the scan as a number: an index below the length is that of a byte, and one at the length is none
+pub index-found : (text : List ℕ) {i : ℕ} → i ≡ Option·getD (firstNotPrintable text) (length text) → i < length text → firstNotPrintable text ≡ some i
+index-found text {i} is h = go (firstNotPrintable text) refl
+  where
+    go : (o : Option ℕ) → firstNotPrintable text ≡ o → firstNotPrintable text ≡ some i
+    go none e =
+        let end : i ≡ length text = rw e at is in
+        let z : ⊥ = omega arith in
+        absurd z
+    go (some j) e =
+        let same : i ≡ j = rw e at is in
+        e ∙ ap some (sym same)
+
+pub none-left : (text : List ℕ) {i : ℕ} → i ≡ Option·getD (firstNotPrintable text) (length text) → length text ≤ i → firstNotPrintable text ≡ none
+none-left text {i} is h = go (firstNotPrintable text) refl
+  where
+    go : (o : Option ℕ) → firstNotPrintable text ≡ o → firstNotPrintable text ≡ none
+    go none e = e
+    go (some j) e =
+        let same : i ≡ j = rw e at is in
+        let below = found-below text e in
+        let z : ⊥ = omega arith in
+        absurd z

@@ -29,8 +29,9 @@ use bus::part251::YEAR_OFFSET;
 ghost use mathlib.Core.Path.{_≡_};
 ghost use mathlib.Core.Bool.{_&&_};
 ghost use mathlib.Core.List.{head?};
+ghost use mathlib.Core.Option.{Option·getD};
 ghost use lib.Dec.{leb};
-ghost use lib.ListN.{getElem?};
+ghost use lib.ListN.{length, getElem?};
 ghost use Rattle.bus.specs.Part251.{fromFormat};
 ghost use Rattle.bus.specs.Options.{optionU8, optionLuminaireFormat};
 ghost use Rattle.bank.specs.Options.{optionU16, optionUsize, optionRefusal, optionLuminaireField};
@@ -369,12 +370,11 @@ impl LuminaireField {
         if (self.len as usize) < text.len() {
             return OptionRefusal::Some(Refusal::TextTooLong);
         }
-        match first_not_printable(text) {
-            OptionUsize::Some(index) => {
-                OptionRefusal::Some(Refusal::ByteNotPrintable(index as u8))
-            }
-            OptionUsize::None => OptionRefusal::None,
+        let index = first_not_printable(text);
+        if index < text.len() {
+            return OptionRefusal::Some(Refusal::ByteNotPrintable(index as u8));
         }
+        OptionRefusal::None
     }
 
     // DiiA 251 §9.2.5
@@ -404,18 +404,19 @@ fn is_printable(byte: u8) -> bool
     is_between(b' ' as u64, byte as u64, b'~' as u64)
 }
 
-// The index of the first byte that is not printable.
-fn first_not_printable(text: &[u8]) -> OptionUsize
-    ensures { λ r. ⌜ r ≡ optionUsize (firstNotPrintable (now (text .entry))) ⌝ }
+// The index of the first byte that is not printable, or the text's length where all are: an option would cost an
+// instruction a byte where the scan is inlined.
+fn first_not_printable(text: &[u8]) -> usize
+    ensures { λ r. ⌜ r ≡ Option·getD (firstNotPrintable (now (text .entry))) (length (now (text .entry))) ⌝ }
 {
     let mut i = 0;
     while i < text.len() {
         if !is_printable(text[i]) {
-            return OptionUsize::Some(i);
+            return i;
         }
         i += 1;
     }
-    OptionUsize::None
+    text.len()
 }
 
 // What a header of bank 1 tells, as far as it was read.

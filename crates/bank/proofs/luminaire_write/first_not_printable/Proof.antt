@@ -2,15 +2,14 @@
 -- measure is the number of bytes that are left.
 -- Assumes nothing.
 use mathlib.Core.Path.{_≡_, refl, sym, ap, _∙_}
-use mathlib.Core.Option.{none}
-use Prim.Native.Nat.{_-_}
+use mathlib.Core.Option.{Option, none, Option·getD}
+use Prim.Native.Nat.{ℕ, _-_}
 use native.Mathlib.Omega.{arith}
 use borrow.Author.Needs.{needs}
 use borrow.Author.Tests.{not-true, not-false}
 use lib.ListN.{length, take}
 use lib.Seq.{take-all}
 use Rattle.bank.specs.Fields.{firstNotPrintable}
-use Rattle.bank.specs.Options.{optionUsize}
 use Rattle.bank.proofs.Texts.{found, passed-byte}
 use Rattle.bank.proofs.luminaire_write.first_not_printable.Statement.{statement}
 use Rattle.bank.proofs.luminaire_write.first_not_printable.Tie as tie
@@ -29,7 +28,8 @@ returns : tie.Need-returns Inv-loop μ-loop
 returns c =
     let l = c .before .before .before .before in
     let outside = sym (c .before .is-printable .ensures) ∙ not-true _ (c .if1 .taken) in
-    sym (ap optionUsize (found (l .before .before .args .text .now) (l .loop .i) (l .loop .inv) (omega arith) outside))
+    let text = l .before .before .args .text .now in
+    sym (ap (λ (o : Option ℕ). Option·getD o (length text)) (found text (l .loop .i) (l .loop .inv) (omega arith) outside))
 
 loop-again : tie.Need-loop-again Inv-loop μ-loop
 loop-again c =
@@ -40,7 +40,8 @@ loop-again c =
 returns-2 : tie.Need-returns-2 Inv-loop μ-loop
 returns-2 c =
     let l = c .before in
-    sym (ap optionUsize (rw (take-all (l .loop .i) (l .before .before .args .text .now) (omega arith)) at (l .loop .inv)))
+    let text = l .before .before .args .text .now in
+    sym (ap (λ (o : Option ℕ). Option·getD o (length text)) (rw (take-all (l .loop .i) text (omega arith)) at (l .loop .inv)))
 
 pub first-not-printable-spec : {M : Type 1} → statement M
 first-not-printable-spec =
