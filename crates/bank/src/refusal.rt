@@ -20,7 +20,7 @@ pub enum Refusal {
     SliceTooShort,
     WrongChunkLength,
     TextTooLong,
-    // The index of the first byte of the text that is not printable; a text that is not too long has one below 255.
+    // The index of the first such byte: below 255, since length is tested first and no field is longer.
     ByteNotPrintable(u8),
 }
 
