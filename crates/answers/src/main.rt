@@ -1,5 +1,7 @@
 // Answers the requests of the comparison with the Rust (oracle/README.md): a line of hexadecimal
 // digits for each request on standard input, a line for each answer on standard output.
+#![tactic(auto)]
+
 mod banks;
 mod bus_unit;
 mod cut_plan;

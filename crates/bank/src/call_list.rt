@@ -11,7 +11,7 @@ use crate::refusal::Refusal;
 pub const WANTING: u16 = 0xFFFF;
 
 // The read-out that a call hands back or leaves, and its answer as a number.
-#[derive(Drop)]
+#[derive(Clone, Copy)]
 struct Called {
     out: ReadOut,
     answer: u16,

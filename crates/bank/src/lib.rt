@@ -1,5 +1,7 @@
 // The bank layer: what a field of bank 1 shows and accepts (part251.rs, luminaire_write.rs), and how a bank
 // is read out in chunks of whole fields (layout.rs, and read_out, which the Rust lacks).
+#![tactic(auto)]
+
 pub mod call_list;
 pub mod layout;
 pub mod luminaire_write;
@@ -16,25 +18,25 @@ pub use part251::{CctReading, LightDistributionType};
 pub use read_out::{ReadOut, ResultReadOut, Wanted};
 pub use refusal::{OptionRefusal, Refusal};
 
-#[derive(Drop)]
+#[derive(Clone, Copy)]
 pub enum OptionBool {
     Some(bool),
     None,
 }
 
-#[derive(Drop)]
+#[derive(Clone, Copy)]
 pub enum OptionU16 {
     Some(u16),
     None,
 }
 
-#[derive(Drop)]
+#[derive(Clone, Copy)]
 pub enum OptionU32 {
     Some(u32),
     None,
 }
 
-#[derive(Drop)]
+#[derive(Clone, Copy)]
 pub enum OptionUsize {
     Some(usize),
     None,

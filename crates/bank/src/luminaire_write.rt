@@ -22,7 +22,7 @@ use bus::part251::{
 };
 use bus::{LuminaireFormat, OptionLuminaireFormat, OptionU8, number_of};
 
-#[derive(Drop)]
+#[derive(Clone, Copy)]
 pub enum NumberRule {
     Year,
     Week,
@@ -77,7 +77,7 @@ fn is_distribution_type(raw: u64, format: LuminaireFormat) -> bool
     }
 }
 
-#[derive(Drop)]
+#[derive(Clone, Copy)]
 pub enum LuminaireTextField {
     LuminaireColour,
     LuminaireIdentification,
@@ -87,14 +87,14 @@ pub enum LuminaireTextField {
     FreeUse,
 }
 
-#[derive(Drop)]
+#[derive(Clone, Copy)]
 pub enum FieldKind {
     LayoutId,
     Number { patch: u16, rule: NumberRule },
     Text(LuminaireTextField),
 }
 
-#[derive(Drop)]
+#[derive(Clone, Copy)]
 pub struct LuminaireField {
     pub offset: u8,
     pub len: u8,
@@ -102,7 +102,7 @@ pub struct LuminaireField {
     pub kind: FieldKind,
 }
 
-#[derive(Drop)]
+#[derive(Clone, Copy)]
 pub enum OptionLuminaireField {
     Some(LuminaireField),
     None,
@@ -407,7 +407,7 @@ fn first_not_printable(text: &[u8]) -> usize
 }
 
 // What a header of bank 1 tells, as far as it was read.
-#[derive(Drop)]
+#[derive(Clone, Copy)]
 pub struct Bank1Layout {
     pub implemented: OptionBool,
     pub content_format_id: OptionU16,
@@ -467,7 +467,7 @@ fn first_byte(header: &[u8]) -> OptionU8
     OptionU8::Some(header[0])
 }
 
-#[derive(Drop)]
+#[derive(Clone, Copy)]
 pub enum ResultLuminaireFormat {
     Ok(LuminaireFormat),
     Err(Refusal),

@@ -70,7 +70,7 @@ pub fn cri(raw: u8) -> OptionU8
     shown_u8(NumberRule::Cri, raw)
 }
 
-#[derive(Drop)]
+#[derive(Clone, Copy)]
 pub enum CctReading {
     Kelvin(u16),
     Part209Implemented,
@@ -89,7 +89,7 @@ pub fn cct(raw: u16) -> CctReading
     }
 }
 
-#[derive(Drop)]
+#[derive(Clone, Copy)]
 pub enum LightDistributionType {
     NotSpecified,
     Type(u8),

@@ -8,21 +8,21 @@ ghost use Rattle.bank.specs.ReadOut.{is_done, want_checks, starting, wanting, ac
 use crate::layout::chunk_len;
 use crate::refusal::{OptionRefusal, Refusal};
 
-#[derive(Drop)]
+#[derive(Clone, Copy)]
 pub struct ReadOut {
     pub bank: u8,
     pub length: u16,
     pub next: u16,
 }
 
-#[derive(Drop)]
+#[derive(Clone, Copy)]
 pub enum ResultReadOut {
     Ok(ReadOut),
     Err(Refusal),
 }
 
 // What a read-out wants next.
-#[derive(Drop)]
+#[derive(Clone, Copy)]
 pub enum Wanted {
     Chunk(u16),
     Done,

@@ -5,7 +5,7 @@ ghost use Rattle.bank.specs.Refusal.{number_of, value_of};
 
 use bus::OptionU8;
 
-#[derive(Drop)]
+#[derive(Clone, Copy)]
 pub enum Refusal {
     FieldReadOnly,
     NotImplemented,
@@ -26,7 +26,7 @@ pub enum Refusal {
     ByteNotPrintable(u8),
 }
 
-#[derive(Drop)]
+#[derive(Clone, Copy)]
 pub enum OptionRefusal {
     Some(Refusal),
     None,

@@ -7,7 +7,7 @@ ghost use Rattle.bus.specs.Maps.{fields, table_of, map_at, map_of, entries, fixe
 use crate::part251::{BANK_LUMINAIRE_INFO, BANK_LUMINAIRE_INFO_MAP};
 use crate::{OptionU8, ValueWidth};
 
-#[derive(Drop)]
+#[derive(Clone, Copy)]
 pub struct BankField {
     pub offset: u8,
     pub width: ValueWidth,
@@ -28,7 +28,7 @@ impl BankField {
     }
 }
 
-#[derive(Drop)]
+#[derive(Clone, Copy)]
 pub enum OptionBankField {
     Some(BankField),
     None,
@@ -36,7 +36,7 @@ pub enum OptionBankField {
 
 // A table with its map's length: the first len entries are the map, by rising offset. Each table has
 // room for the longest map, so that one loop serves all of them.
-#[derive(Drop)]
+#[derive(Clone, Copy)]
 pub struct FieldMap {
     pub len: usize,
     pub fields: [BankField; 28],
@@ -383,7 +383,7 @@ pub const BANK_LIGHT_SOURCE_DIAGNOSTICS: u8 = 206;
 pub const BANK_LUMINAIRE_MAINTENANCE: u8 = 207;
 
 // The maps: banks 202 to 204 share one, and a bank that is not named has none.
-#[derive(Drop)]
+#[derive(Clone, Copy)]
 pub enum BankMap {
     LuminaireInfo,
     Energy,

@@ -1,5 +1,7 @@
 // The bus layer: the widths of a bank's values (banks/mod.rs), and below it the maps of the banks
 // (layout.rs) and the formats and texts of bank 1 (part251.rs).
+#![tactic(auto)]
+
 pub mod layout;
 pub mod part251;
 
@@ -28,7 +30,7 @@ fn power_of_two(exponent: usize) -> u64
     1 << exponent
 }
 
-#[derive(Drop)]
+#[derive(Clone, Copy)]
 pub enum ValueWidth {
     U8,
     U16,
@@ -110,19 +112,19 @@ pub fn signed_byte(raw: u8) -> i8
     ValueWidth::I8.to_signed(raw as u64) as i8
 }
 
-#[derive(Drop)]
+#[derive(Clone, Copy)]
 pub enum OptionU8 {
     Some(u8),
     None,
 }
 
-#[derive(Drop)]
+#[derive(Clone, Copy)]
 pub enum OptionU64 {
     Some(u64),
     None,
 }
 
-#[derive(Drop)]
+#[derive(Clone, Copy)]
 pub enum BankValue {
     Reading(u64),
     NotImplemented,
@@ -161,7 +163,7 @@ impl BankValue {
     }
 }
 
-#[derive(Drop)]
+#[derive(Clone, Copy)]
 pub enum OptionBankValue {
     Some(BankValue),
     None,

@@ -14,14 +14,14 @@ pub const BANK1_BASE_LAST_OFFSET: u8 = 0x10;
 
 pub const BANK1_FORMAT_GATE_LAST_OFFSET: u8 = 0x12;
 
-#[derive(Drop)]
+#[derive(Clone, Copy)]
 pub enum LuminaireFormat {
     V3,
     V4,
     V5,
 }
 
-#[derive(Drop)]
+#[derive(Clone, Copy)]
 pub enum OptionLuminaireFormat {
     Some(LuminaireFormat),
     None,
@@ -210,7 +210,7 @@ pub const BANK_LUMINAIRE_INFO_MAP: [BankField; 28] = [
     },
 ];
 
-#[derive(Drop)]
+#[derive(Clone, Copy)]
 pub struct TextRegion {
     pub offset: u8,
     pub len: u8,

@@ -3,7 +3,7 @@ use bank::OptionU32;
 use bus::OptionU64;
 
 // What a place of banks 202 to 207 says.
-#[derive(Drop)]
+#[derive(Clone, Copy)]
 pub struct BankReading {
     pub value: OptionU64,
     pub not_implemented: bool,
@@ -11,21 +11,21 @@ pub struct BankReading {
     pub saturated: bool,
 }
 
-#[derive(Drop)]
+#[derive(Clone, Copy)]
 pub enum OptionBankReading {
     Some(BankReading),
     None,
 }
 
 // What a number of bank 1 says.
-#[derive(Drop)]
+#[derive(Clone, Copy)]
 pub struct LuminaireValue {
     pub raw: u32,
     pub value: OptionU32,
     pub part209_implemented: bool,
 }
 
-#[derive(Drop)]
+#[derive(Clone, Copy)]
 pub enum OptionLuminaireValue {
     Some(LuminaireValue),
     None,

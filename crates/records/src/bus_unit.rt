@@ -16,7 +16,7 @@ const FIRST_IMPLEMENTED_PART: u16 = 150;
 
 const IMPLEMENTED_PART_BITS: u8 = 5;
 
-#[derive(Drop)]
+#[derive(Clone, Copy)]
 pub enum BusUnitConfiguration {
     Defined(u8),
     EmergencyType(EmergencyGearType),
@@ -24,7 +24,7 @@ pub enum BusUnitConfiguration {
     ManufacturerSpecific(u8),
 }
 
-#[derive(Drop)]
+#[derive(Clone, Copy)]
 pub enum EmergencyGearType {
     A,
     B,
@@ -89,7 +89,7 @@ impl BusUnitConfiguration {
     }
 }
 
-#[derive(Drop)]
+#[derive(Clone, Copy)]
 pub struct ImplementedParts(u8);
 
 impl ImplementedParts {

@@ -3,7 +3,7 @@ ghost use Rattle.std.specs.Prelude.{◌≡◌};
 ghost use Rattle.records.specs.Text.{limit_of, absent_text};
 
 // At most how many bytes a text has.
-#[derive(Drop)]
+#[derive(Clone, Copy)]
 pub enum TextLimit {
     Bytes32,
     Bytes64,
@@ -21,7 +21,7 @@ impl TextLimit {
 }
 
 // A text is the first `len` of its bytes; the others are 0. One that is not present has none.
-#[derive(Drop)]
+#[derive(Clone, Copy)]
 pub struct FixedText {
     pub present: bool,
     pub limit: TextLimit,

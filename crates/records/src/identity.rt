@@ -21,14 +21,14 @@ pub const IDENTITY_WINDOW_LEN: u16 = 24;
 
 pub const MASK: u8 = 0xFF;
 
-#[derive(Drop)]
+#[derive(Clone, Copy)]
 pub struct DeviceIdentity {
     pub gtin: u64,
     pub identification_number: u64,
     pub logical_gear_index: u8,
 }
 
-#[derive(Drop)]
+#[derive(Clone, Copy)]
 pub enum IdentityRead {
     Unread,
     Unprovable,
@@ -36,13 +36,13 @@ pub enum IdentityRead {
 }
 
 // Why no identity is known.
-#[derive(Drop)]
+#[derive(Clone, Copy)]
 pub enum IdentityCause {
     Unknown,
     Unprovable,
 }
 
-#[derive(Drop)]
+#[derive(Clone, Copy)]
 pub enum ResultDeviceIdentity {
     Ok(DeviceIdentity),
     Err(IdentityCause),

@@ -1,6 +1,8 @@
 // The record layer: what the bytes of a bank say (memory_bank_parser.rs, attributes.rs) and its texts (part251.rs), who a
 // device is (identity.rs), what a bus unit is made of (bus_unit.rs), and the plan of a write to bank 1
 // (luminaire_write.rs).
+#![tactic(auto)]
+
 pub mod attributes;
 pub mod bus_unit;
 pub mod cut_plan;
@@ -25,13 +27,13 @@ pub use memory_bank_parser::{
     ParsedLuminaireMaintenance, ParsedMemoryIdentity, ParsedMemoryProfile, ParsedSourceDiagnostics,
 };
 
-#[derive(Drop)]
+#[derive(Clone, Copy)]
 pub enum OptionI8 {
     Some(i8),
     None,
 }
 
-#[derive(Drop)]
+#[derive(Clone, Copy)]
 pub enum ResultUsize {
     Ok(usize),
     Err(Refusal),

@@ -33,7 +33,7 @@ pub const TEXT_TERMINATOR: u8 = 0;
 pub const PATCH_BITS: u16 = 0x07FF;
 
 // The numbers that may be written, and a mask of those that are.
-#[derive(Drop)]
+#[derive(Clone, Copy)]
 pub struct LuminaireNumbers {
     pub patch_mask: u16,
     pub year: u32,
@@ -107,20 +107,20 @@ impl LuminaireNumbers {
 }
 
 // A write to the field at an index: its bytes are the first so many of a slice that is lent beside it.
-#[derive(Drop)]
+#[derive(Clone, Copy)]
 pub struct FieldWrite {
     pub field: usize,
     pub len: u8,
 }
 
-#[derive(Drop)]
+#[derive(Clone, Copy)]
 pub enum OptionFieldWrite {
     Some(FieldWrite),
     None,
 }
 
 // Which bytes of its write a stage stores: the 00 that empties a text, all, those behind the first, or the first.
-#[derive(Drop)]
+#[derive(Clone, Copy)]
 pub enum StagePart {
     Terminator,
     Whole,
@@ -129,14 +129,14 @@ pub enum StagePart {
 }
 
 // One part of a write, which is stored before the next begins.
-#[derive(Drop)]
+#[derive(Clone, Copy)]
 pub struct WriteStage {
     pub field: usize,
     pub offset: u8,
     pub part: StagePart,
 }
 
-#[derive(Drop)]
+#[derive(Clone, Copy)]
 pub enum OptionWriteStage {
     Some(WriteStage),
     None,
@@ -398,7 +398,7 @@ fn field_write(
 }
 
 // How many writes are laid, and how many bytes they have.
-#[derive(Drop)]
+#[derive(Clone, Copy)]
 struct WriteCounts {
     writes: usize,
     bytes: usize,
@@ -617,7 +617,7 @@ fn text_refusal(layout: Bank1Layout, field: LuminaireField, text: &[u8]) -> Opti
 
 // What is to be written to bank 1: the numbers, and at most one text, whose field is told by its index. The text itself
 // is lent.
-#[derive(Drop)]
+#[derive(Clone, Copy)]
 pub struct Plan {
     pub layout: Bank1Layout,
     pub numbers: LuminaireNumbers,

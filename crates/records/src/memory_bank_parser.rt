@@ -39,7 +39,7 @@ use bus::{
     TextRegion, ValueWidth, number_of, read_value, signed_byte,
 };
 
-#[derive(Drop)]
+#[derive(Clone, Copy)]
 pub struct ParsedMemoryIdentity {
     pub last_memory_bank: OptionU8,
     pub gtin: OptionU64,
@@ -56,7 +56,7 @@ pub struct ParsedMemoryIdentity {
     pub logical_control_gear_index: OptionU8,
 }
 
-#[derive(Drop)]
+#[derive(Clone, Copy)]
 pub struct ParsedMemoryProfile {
     pub bank1_lock_byte: OptionU8,
     pub oem_gtin: OptionU64,
@@ -208,7 +208,7 @@ pub fn parse_bank1_profile(bytes: &[u8], start_offset: u16) -> ParsedMemoryProfi
     }
 }
 
-#[derive(Drop)]
+#[derive(Clone, Copy)]
 pub struct ParsedBusUnit {
     pub configuration: OptionU8,
     pub implemented_parts: OptionU8,
@@ -223,7 +223,7 @@ pub fn parse_bank0_bus_unit(bytes: &[u8], start_offset: u16) -> ParsedBusUnit
     }
 }
 
-#[derive(Drop)]
+#[derive(Clone, Copy)]
 pub struct ParsedLuminaire {
     pub content_format_id: OptionU16,
     pub year: OptionLuminaireValue,
@@ -564,7 +564,7 @@ fn escape_into(raw: &[u8], out: &mut [u8]) -> usize
 }
 
 // How many bytes of a text were taken, and how many they became.
-#[derive(Drop)]
+#[derive(Clone, Copy)]
 struct Pushed {
     taken: usize,
     len: usize,
@@ -609,7 +609,7 @@ fn format_hex_escape(byte: u8) -> [u8; 4]
     [b'\\', b'x', digits[0], digits[1]]
 }
 
-#[derive(Drop)]
+#[derive(Clone, Copy)]
 pub struct ParsedEnergyBank {
     pub bank_version: OptionU8,
     pub energy_scale: OptionI8,
@@ -630,7 +630,7 @@ pub fn parse_energy_bank(bytes: &[u8], start_offset: u16) -> ParsedEnergyBank
     }
 }
 
-#[derive(Drop)]
+#[derive(Clone, Copy)]
 pub struct ParsedCondition {
     pub flag: OptionBankReading,
     pub counter: OptionBankReading,
@@ -647,7 +647,7 @@ fn parse_condition(bytes: &[u8], start_offset: u16, flag_offset: u8) -> ParsedCo
 }
 
 // DiiA 253 §9.2.16
-#[derive(Drop)]
+#[derive(Clone, Copy)]
 pub struct ParsedGearDiagnostics {
     pub bank_version: OptionU8,
     pub operating_time_s: OptionBankReading,
@@ -687,7 +687,7 @@ pub fn parse_gear_diagnostics(bytes: &[u8], start_offset: u16) -> ParsedGearDiag
 }
 
 // DiiA 253 §9.2.17
-#[derive(Drop)]
+#[derive(Clone, Copy)]
 pub struct ParsedSourceDiagnostics {
     pub bank_version: OptionU8,
     pub start_counter_resettable: OptionBankReading,
@@ -724,7 +724,7 @@ pub fn parse_source_diagnostics(bytes: &[u8], start_offset: u16) -> ParsedSource
     }
 }
 
-#[derive(Drop)]
+#[derive(Clone, Copy)]
 pub struct ParsedLuminaireMaintenance {
     pub bank_version: OptionU8,
     pub rated_life_kilohours: OptionBankReading,

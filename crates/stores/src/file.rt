@@ -15,7 +15,7 @@ const VERSION: u32 = 1;
 // The text index of a file that has no text.
 const NO_TEXT: u32 = 0xFF;
 
-#[derive(Drop)]
+#[derive(Clone, Copy)]
 pub(crate) enum OptionPlan {
     Some(Plan),
     None,

@@ -1,5 +1,7 @@
 // Reads a file that says what is to be written to bank 1 and prints the stores in their order, or the number of the
 // refusal.
+#![tactic(auto)]
+
 mod file;
 mod listing;
 

@@ -16,25 +16,25 @@ use Rattle.bus.specs.declared.ValueWidth.{ValueWidth}
 use Rattle.bus.specs.Width.{bits_of, to_signed}
 use Rattle.bus.proofs.Width.{sized}
 use Rattle.bus.proofs.Signed.{meaning_fits, sign_without_branch}
-use Rattle.bus.proofs.ValueWidth.to_signed.Statement.{statement}
-use Rattle.bus.proofs.ValueWidth.to_signed.Tie as tie
+use Rattle.bus.proofs.ValueWidth.to_signed.Goals as goal
+use Rattle.bus.proofs.ValueWidth.to_signed.Goals.{After-power_of_two-range}
 
-module _ (c : tie.After-power-of-two) where
+module _ (c : After-power_of_two-range) where
   abbrev Width : ValueWidth
-  Width = c.before.before.args.self
+  Width = c.args.self
 
   abbrev Raw : ℕ
-  Raw = c.before.before.args.raw
+  Raw = c.args.raw
 
   abbrev Range : ℕ
-  Range = c.power-of-two.result
+  Range = c.power_of_two-range.result
 
   abbrev Half : ℕ
   Half = Range / 2
 
   -- the range that the code computes is that of the width, of 8 to 48 bits
   range_is : Range ≡ 2 ^ bits_of Width
-  range_is = c.power-of-two.ensures ∙ ap (λ (k : ℕ). 2 ^ (8 * k)) c.before.bytes.ensures
+  range_is = c.power_of_two-range.ensures ∙ ap (λ (k : ℕ). 2 ^ (8 * k)) c.bytes.ensures
 
   some_bits : 1 ≤ bits_of Width
   some_bits = omega (arith, sized Width)
@@ -63,35 +63,20 @@ module _ (c : tie.After-power-of-two) where
       let in-range = meaning_fits (bits_of Width) (Raw % 2 ^ bits_of Width) some_bits (mod-lt Raw (pow_pos (bits_of Width))) in
       omega (arith, small_range, range_is, in-range)
 
-mul-power-of-two : tie.Need-overflow-mul-power-of-two
-mul-power-of-two c = omega (arith, sized c.before.args.self)
+pub overflow_mul-bytes : goal.overflow_mul-bytes
+overflow_mul-bytes c = omega (arith, sized c.args.self)
 
-power-of-two-requires : tie.Need-power-of-two-requires
-power-of-two-requires c κs = omega (arith, sized c.before.args.self)
+pub power_of_two-range-requires : goal.power_of_two-range-requires
+power_of_two-range-requires c = omega (arith, sized c.args.self)
 
-add-result : tie.Need-overflow-add-result
-add-result c = omega (arith, remainder_small c (Raw c), half_small c)
+pub overflow_add-result : goal.overflow_add-result
+overflow_add-result c = omega (arith, remainder_small (goal.at.overflow_add-result c).After-power_of_two-range (Raw (goal.at.overflow_add-result c).After-power_of_two-range), half_small (goal.at.overflow_add-result c).After-power_of_two-range)
 
-cast-result : tie.Need-overflow-cast-result
-cast-result c = record { sfits = remainder_small c _ }
+pub overflow_cast-result : goal.overflow_cast-result
+overflow_cast-result c = record { sfits = remainder_small (goal.at.overflow_cast-result c).After-power_of_two-range _ }
 
-sub-result : tie.Need-overflow-sub-result
-sub-result c = rw (meaning c) (record { sfits = meaning_small c })
+pub overflow_sub-result : goal.overflow_sub-result
+overflow_sub-result c = rw (meaning (goal.at.overflow_sub-result c).After-power_of_two-range) (record { sfits = meaning_small (goal.at.overflow_sub-result c).After-power_of_two-range })
 
-returns : tie.Need-returns
-returns c = to_z-of_z (sub-result c) ∙ meaning c
-
-pub to-signed-spec : {M : Type 1} → statement M
-to-signed-spec =
-    tie.close
-    (tie.spec
-    (λ c κs. search rules)
-    mul-power-of-two
-    power-of-two-requires
-    some_range
-    add-result
-    some_range
-    cast-result
-    (λ c. search rules)
-    sub-result
-    returns)
+pub returns : goal.returns
+returns c = to_z-of_z (overflow_sub-result c) ∙ meaning (goal.at.returns c).After-power_of_two-range
