@@ -1,0 +1,33 @@
+-- `bank::luminaire_write::first_not_printable` meets its contract. The invariant: none of the bytes before i is found. The
+-- Assumes nothing.
+use mathlib.Core.Path.{◌≡◌, refl, sym, ap, ◌∙◌}
+use mathlib.Core.Option.{Option, none, get_or}
+use Prim.Native.Nat.{ℕ, ◌-◌}
+use native.Mathlib.Omega.{arith}
+use borrow.Author.Rules.{rules}
+use borrow.Author.Tests.{not-true, not-false}
+use lib.ListN.{length, take}
+use lib.Seq.{take_all}
+use Rattle.bank.specs.Fields.{first_not_printable}
+use Rattle.bank.proofs.Texts.{found, passed_byte}
+use Rattle.bank.proofs.luminaire_write.first_not_printable.Goals as goal
+
+pub loop-i-init : goal.loop-i-init
+unfolding first_not_printable
+loop-i-init c = refl
+
+pub returns-then-not-is_printable : goal.returns-then-not-is_printable
+returns-then-not-is_printable c =
+    let outside = sym c.is_printable.ensures ∙ c.if-not-is_printable.true in
+    let text = c.args.text.now in
+    sym (ap (λ (o : Option ℕ). get_or o (length text)) (found text c.loop-i.i c.loop-i.invariant (omega arith) outside))
+
+pub loop-i-preserved : goal.loop-i-preserved
+loop-i-preserved c =
+    let inside = sym c.is_printable.ensures ∙ c.if-not-is_printable.false in
+    passed_byte c.args.text.now c.loop-i.i c.loop-i.invariant (omega arith) inside
+
+pub returns : goal.returns
+returns c =
+    let text = c.args.text.now in
+    sym (ap (λ (o : Option ℕ). get_or o (length text)) (rw (take_all c.loop-i.i text (omega arith)) at c.loop-i.invariant))

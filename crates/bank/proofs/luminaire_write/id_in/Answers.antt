@@ -1,0 +1,21 @@
+-- `bank::luminaire_write::id_in` meets its contract: its two bytes make the id.
+-- Assumes nothing.
+use mathlib.Core.Path.{ap, sym, ◌∙◌}
+use native.Mathlib.Omega.{arith}
+use borrow.Author.Rules.{rules}
+use Rattle.bus.proofs.Number.{number_part, part_below}
+use Rattle.bank.specs.declared.OptionU16.{OptionU16}
+use Rattle.bank.specs.Options.{option_u16}
+use Rattle.bank.proofs.Header.{no_id, id}
+use Rattle.bank.proofs.luminaire_write.id_in.Goals as goal
+
+pub returns-then-header-at : goal.returns-then-header-at
+returns-then-header-at c = ap option_u16 (sym (no_id c.args.header.now (omega arith)))
+
+pub overflow_cast-result : goal.overflow_cast-result
+overflow_cast-result c = omega (arith, part_below c.args.header.now 17 2 c.number_of.ensures.below)
+
+pub returns : goal.returns
+returns c =
+    let h = c.args.header.now in
+    ap OptionU16.Some (c.number_of.ensures.value ∙ number_part h 17 2 (omega arith)) ∙ ap option_u16 (sym (id h (omega arith)))
