@@ -1,0 +1,17 @@
+-- `records::output::put_all` meets its contract. The invariant: the first i bytes are stored. The measure is the
+-- number of those that are left.
+-- Assumes nothing.
+use mathlib.Core.Path.{◌≡◌, refl, sym, ap, ◌∙◌}
+use mathlib.Core.List.{List}
+use Prim.Native.Nat.{ℕ, ◌+◌, ◌-◌, ◌≤◌}
+use native.Mathlib.Omega.{arith}
+use lib.ListN.{length, get_or, set, take}
+use lib.Seq.{sets, take_all, length-sets}
+use Rattle.records.proofs.Laying.{sets_behind, sets_full, sets_next}
+use Rattle.records.proofs.output.put_all.Given as goal
+
+abbrev pub invariant-loop-i : goal.invariant-loop-i
+invariant-loop-i l = (l.i ≤ length l.bytes) × (l.i ≤ l.room) × (l.at + l.room ≡ length l.initial.out) × (l.out ≡ sets l.initial.out l.at (take l.i l.bytes))
+
+abbrev pub decreases-loop-i : goal.decreases-loop-i
+decreases-loop-i l = length l.bytes - l.i
