@@ -17,7 +17,7 @@ use Rattle.bank.specs.Fields.{luminaire_fields}
 use Rattle.bank.specs.Writable.{write_checks, text_checks}
 use Rattle.bank.proofs.Checks.{refused_first, passed_first, none_first, passed}
 use Rattle.bank.proofs.TextChecks.{other, text_passes, text_taken_exactly}
-use Rattle.records.specs.declared.ResultUsize.TheVariants.{Ok, Err}
+use Rattle.records.specs.declared.ResultUsize.TheVariants.{Err}
 use Rattle.records.specs.declared.luminaire_write.Plan.{Plan}
 use Rattle.records.specs.Writes.{gather, wanted_number, is_for}
 use Rattle.records.specs.Plan.{number_checks, write_text_checks, if_wanted, field_checks, plan_checks, stores_of, short_slices, lay_checks, planned, AsBefore, PlansAcceptedAsBefore, RefusedByte, FirstUnprintable}

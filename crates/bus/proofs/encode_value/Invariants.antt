@@ -1,17 +1,11 @@
 -- `bus::encode_value` meets its contract. The invariant: the first i of the low bytes stand in the place of the output's
 -- first i. The measure is the number of bytes that are left.
 -- Assumes nothing.
-use mathlib.Core.Path.{◌≡◌, refl, sym, ap, ◌∙◌}
-use mathlib.Core.List.{List, ◌++◌}
-use Prim.Native.Nat.{ℕ, ◌*◌, ◌-◌, ◌/◌, ◌%◌, ◌^◌, ◌≤◌, ◌<◌}
-use native.Mathlib.Omega.{arith}
-use borrow.Author.Rules.{rules}
-use lib.ListN.{length, set, take, drop, length-set}
+use mathlib.Core.Path.{◌≡◌}
+use mathlib.Core.List.{◌++◌}
+use Prim.Native.Nat.{◌-◌, ◌≤◌}
+use lib.ListN.{length, take, drop}
 use Rattle.bus.specs.Number.{low_bytes}
-use Rattle.bus.specs.Value.{laid_into, encoded}
-use Rattle.bus.proofs.Width.{sized}
-use Rattle.bus.proofs.Number.{length_low_bytes, low_bytes_at}
-use Rattle.bus.proofs.Lists.{laid_suc, laid_all, laid_short}
 use Rattle.bus.proofs.encode_value.Given as goal
 
 abbrev pub invariant-loop-i : goal.invariant-loop-i

@@ -1,14 +1,10 @@
 -- `bus::number_of` meets its contract. The invariant: number is that of the first i bytes, which is below 2 to the 8 i.
 -- The measure is the number of bytes that are left of eight.
 -- Assumes nothing.
-use mathlib.Core.Path.{◌≡◌, refl, sym, ap, ◌∙◌}
-use Prim.Native.Nat.{ℕ, ◌+◌, ◌*◌, ◌-◌, ◌^◌, ◌≤◌, ◌<◌}
-use native.Mathlib.Omega.{arith}
-use lib.ListN.{length, get_or, take}
-use lib.Seq.{take_all}
-use lib.Pow.{pow_mono}
+use mathlib.Core.Path.{◌≡◌}
+use Prim.Native.Nat.{◌*◌, ◌-◌, ◌^◌, ◌≤◌, ◌<◌}
+use lib.ListN.{length, take}
 use Rattle.bus.specs.Number as spec
-use Rattle.bus.proofs.Number.{pow_byte, number_next}
 use Rattle.bus.proofs.number_of.Given as goal
 
 abbrev pub invariant-loop-i : goal.invariant-loop-i

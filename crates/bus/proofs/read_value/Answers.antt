@@ -10,7 +10,6 @@ use Rattle.bus.specs.declared.OptionBankValue.{OptionBankValue}
 use Rattle.bus.specs.Number.{number}
 use Rattle.bus.specs.Width.{bytes_of}
 use Rattle.bus.specs.Value.{classified, value_of, FitsWidth}
-use borrow.Author.Rules.{rules}
 use borrow.Author.Tests.{le-leb, lt-leb}
 use Rattle.bus.proofs.Number.{number_part, part_below}
 use Rattle.bus.proofs.Value.{value_fits}

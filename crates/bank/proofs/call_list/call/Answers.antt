@@ -3,7 +3,6 @@
 use mathlib.Core.Path.{◌≡◌, refl, sym, ap, ◌∙◌}
 use mathlib.Core.List.{List}
 use Prim.Native.Nat.{ℕ}
-use borrow.Author.Rules.{rules}
 use borrow.Author.Tests.{eq-eqb, ne_eqb}
 use Rattle.bank.specs.declared.call_list.Called.{Called}
 use Rattle.bank.specs.declared.read_out.ReadOut.{ReadOut}
@@ -19,7 +18,7 @@ abbrev called : ReadOut → ℕ → Called
 called out answer = record { out = out; answer = answer }
 
 -- what accepting hands on has the bank and the length of the read-out before
-same_but_next :  (out : ReadOut) (budget : ℕ) (bytes buffer : List ℕ) {answered : ResultReadOut} {s : ReadOut} → answered ≡ accepting chunk_len out budget bytes buffer → answered ≡ Ok s → called (record { bank = out.bank; length = out.length; next = s.next }) s.next ≡ called s s.next
+same_but_next : (out : ReadOut) (budget : ℕ) (bytes buffer : List ℕ) {answered : ResultReadOut} {s : ReadOut} → answered ≡ accepting chunk_len out budget bytes buffer → answered ≡ Ok s → called (record { bank = out.bank; length = out.length; next = s.next }) s.next ≡ called s s.next
 same_but_next out budget bytes buffer e told = rw (handed_on chunk_len out budget bytes buffer (sym e ∙ told))
 
 pub returns-then-len-eq-WANTING : goal.returns-then-len-eq-WANTING

@@ -1,13 +1,11 @@
 -- `bank::call_list::run` meets its contract. The invariant: with the calls and the chunks that are left, the run ends as it
 -- Assumes nothing.
 use mathlib.Core.Path.{◌≡◌, refl, sym, ap, ◌∙◌}
-use Prim.Native.Nat.{◌+◌, ◌-◌, ◌≤◌}
+use Prim.Native.Nat.{◌+◌, ◌≤◌}
 use native.Mathlib.Omega.{arith}
-use borrow.Author.Rules.{rules}
 use lib.ListN.{length, get_or, set, drop}
 use lib.Seq.{set_out}
-use Rattle.bank.specs.Calls.{state_of, calls_in}
-use Rattle.bank.proofs.Running.{Ran, ran_on, chunk_within, next_call, no_call, same_answers, all_stored}
+use Rattle.bank.proofs.Running.{ran_on, chunk_within, next_call, no_call, all_stored}
 use Rattle.bank.proofs.call_list.run.Goals as goal
 use Rattle.bank.proofs.call_list.run.Goals.{After-chunk_of, else-count-answers, then-count-answers}
 
@@ -28,10 +26,10 @@ loop-i-preserved c =
     let a = c.args in
     let next = next_call a.calls.now a.chunks.now c.loop-i.i c.loop-i.at c.chunk_of.result c.chunk_of.ensures (omega arith) in
     let stored : c.if-count-answers.answers ≡ set c.loop-i.answers c.loop-i.count c.call-called.result.answer =
-        elim c.if-count-answers.branch [
-          | then-count-answers w ↦ w.answers-is
-          | else-count-answers w ↦ w.answers-is ∙ sym (set_out c.loop-i.answers c.loop-i.count c.call-called.result.answer w.if-count-answers.false)
-        ]
+    elim c.if-count-answers.branch [
+      | then-count-answers w ↦ w.answers-is
+      | else-count-answers w ↦ w.answers-is ∙ sym (set_out c.loop-i.answers c.loop-i.count c.call-called.result.answer w.if-count-answers.false)
+    ]
     in
     (omega arith, chunk_ends (goal.at.loop-i-preserved c).After-chunk_of, omega arith, omega arith, ran_on c.loop-i.invariant.4 next c.call-called.ensures.answer c.call-called.ensures.stored stored)
 

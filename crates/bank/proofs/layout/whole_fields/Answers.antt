@@ -1,6 +1,6 @@
 -- The fields from a place of the map on are those that its table still has.
 -- Assumes nothing.
-use mathlib.Core.Path.{◌≡◌, refl, sym, ap, ◌∙◌}
+use mathlib.Core.Path.{◌≡◌, sym, ap, ◌∙◌}
 use mathlib.Core.List.{[], ◌∷◌}
 use Prim.Native.Nat.{ℕ, ◌+◌, ◌≤◌, ◌<◌}
 use native.Mathlib.Omega.{arith}
@@ -11,7 +11,7 @@ use Rattle.bus.specs.declared.layout.FieldMap.{FieldMap}
 use Rattle.bus.specs.Maps.{entries}
 use Rattle.bus.proofs.Width.{sized}
 use Rattle.bus.proofs.Lists.{rest, no_rest}
-use Rattle.bank.specs.Chunk.{fields_from, with_further, whole_fields}
+use Rattle.bank.specs.Chunk.{fields_from, with_further}
 use Rattle.bank.proofs.Chunk.{from_here, from_next, from_end, further_fits, further_stops, further_end, chunk_smaller, chunk_whole, chunk_end}
 use Rattle.bank.proofs.layout.whole_fields.Goals as goal
 use Rattle.bank.proofs.layout.whole_fields.Goals.{Left-loop-i, Start, else-loop-i-test, then-loop-i-test+then-field-offset}

@@ -2,21 +2,11 @@
 -- left of the map. The second keeps: what is taken, with what is left of the map, makes the answer. The measure of each is
 -- the number of fields that are left.
 -- Assumes nothing.
-use mathlib.Core.Path.{◌≡◌, refl, sym, ap, ◌∙◌}
-use mathlib.Core.Logic.{⊎_elim}
-use mathlib.Core.List.{[], ◌∷◌}
-use Prim.Native.Nat.{ℕ, ◌+◌, ◌-◌, ◌≤◌, ◌<◌}
-use native.Mathlib.Omega.{arith}
-use borrow.Author.Rules.{rules}
-use lib.ListN.{length, get_or, drop}
-use Rattle.bus.specs.declared.ValueWidth.TheVariants.{U8}
-use Rattle.bus.specs.declared.layout.BankField.{BankField}
+use mathlib.Core.Path.{◌≡◌}
+use Prim.Native.Nat.{◌-◌}
+use lib.ListN.{drop}
 use Rattle.bus.specs.Maps.{entries}
-use Rattle.bus.proofs.Width.{sized}
-use Rattle.bus.proofs.Lists.{rest, no_rest}
-use Rattle.bus.proofs.Maps.{table_room}
 use Rattle.bank.specs.Chunk.{fields_from, with_further, whole_fields}
-use Rattle.bank.proofs.Chunk.{from_here, from_next, from_end, further_fits, further_stops, further_end, chunk_smaller, chunk_whole, chunk_end}
 use Rattle.bank.proofs.layout.whole_fields.Given as goal
 
 abbrev pub invariant-loop-i : goal.invariant-loop-i

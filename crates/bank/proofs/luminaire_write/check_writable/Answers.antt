@@ -4,8 +4,6 @@
 use mathlib.Core.Path.{◌≡◌, sym, ◌∙◌}
 use mathlib.Core.Bool.{false, not, cond}
 use mathlib.Core.Option.{none, some}
-use borrow.Author.Tests.{not-true, not-false}
-use borrow.Author.Rules.{rules}
 use Rattle.bus.specs.Part251.{from_format}
 use Prim.Native.Nat.{ℕ}
 use Rattle.bus.specs.declared.OptionU8.{OptionU8}

@@ -1,12 +1,10 @@
 -- `bank::luminaire_write::first_not_printable` meets its contract. The invariant: none of the bytes before i is found. The
 -- Assumes nothing.
-use mathlib.Core.Path.{◌≡◌, refl, sym, ap, ◌∙◌}
-use mathlib.Core.Option.{Option, none, get_or}
-use Prim.Native.Nat.{ℕ, ◌-◌}
+use mathlib.Core.Path.{refl, sym, ap, ◌∙◌}
+use mathlib.Core.Option.{Option, get_or}
+use Prim.Native.Nat.{ℕ}
 use native.Mathlib.Omega.{arith}
-use borrow.Author.Rules.{rules}
-use borrow.Author.Tests.{not-true, not-false}
-use lib.ListN.{length, take}
+use lib.ListN.{length}
 use lib.Seq.{take_all}
 use Rattle.bank.specs.Fields.{first_not_printable}
 use Rattle.bank.proofs.Texts.{found, passed_byte}

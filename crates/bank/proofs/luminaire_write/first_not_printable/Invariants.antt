@@ -1,16 +1,11 @@
 -- `bank::luminaire_write::first_not_printable` meets its contract. The invariant: none of the bytes before i is found. The
 -- measure is the number of bytes that are left.
 -- Assumes nothing.
-use mathlib.Core.Path.{◌≡◌, refl, sym, ap, ◌∙◌}
-use mathlib.Core.Option.{Option, none, get_or}
-use Prim.Native.Nat.{ℕ, ◌-◌}
-use native.Mathlib.Omega.{arith}
-use borrow.Author.Rules.{rules}
-use borrow.Author.Tests.{not-true, not-false}
+use mathlib.Core.Path.{◌≡◌}
+use mathlib.Core.Option.{none}
+use Prim.Native.Nat.{◌-◌}
 use lib.ListN.{length, take}
-use lib.Seq.{take_all}
 use Rattle.bank.specs.Fields.{first_not_printable}
-use Rattle.bank.proofs.Texts.{found, passed_byte}
 use Rattle.bank.proofs.luminaire_write.first_not_printable.Given as goal
 
 abbrev pub invariant-loop-i : goal.invariant-loop-i

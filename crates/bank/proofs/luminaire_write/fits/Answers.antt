@@ -5,7 +5,6 @@ use Prim.Native.Nat.{◌*◌, ◌^◌}
 use native.Mathlib.Nat.{one-mul}
 use native.Mathlib.Omega.{arith}
 use borrow.Author.Tests.{lt-ltb}
-use borrow.Author.Rules.{rules}
 use lib.Dec.{ltb, lit<}
 use lib.Pow.{pow_mono, shl_exact}
 use Rattle.bank.proofs.luminaire_write.fits.Goals as goal

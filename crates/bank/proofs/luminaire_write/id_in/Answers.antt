@@ -2,7 +2,6 @@
 -- Assumes nothing.
 use mathlib.Core.Path.{ap, sym, ◌∙◌}
 use native.Mathlib.Omega.{arith}
-use borrow.Author.Rules.{rules}
 use Rattle.bus.proofs.Number.{number_part, part_below}
 use Rattle.bank.specs.declared.OptionU16.{OptionU16}
 use Rattle.bank.specs.Options.{option_u16}

@@ -1,14 +1,10 @@
 -- `bank::read_out::copy_in` meets its contract. The invariant: the first i bytes of `src` are copied. The measure is what
 -- is left of `src`.
 -- Assumes nothing.
-use mathlib.Core.Path.{◌≡◌, refl, sym, ap, ◌∙◌}
-use mathlib.Core.List.{List}
-use Prim.Native.Nat.{ℕ, ◌+◌, ◌-◌, ◌≤◌, zero-le}
-use native.Mathlib.Numerals.{add-one}
-use native.Mathlib.Omega.{arith}
-use lib.ListN.{length, get_or, set, length-set}
-use lib.Seq.{paste, paste-zero, paste-suc}
-use Rattle.bank.proofs.Reading.{paste_all}
+use mathlib.Core.Path.{◌≡◌}
+use Prim.Native.Nat.{◌-◌, ◌≤◌}
+use lib.ListN.{length}
+use lib.Seq.{paste}
 use Rattle.bank.proofs.read_out.copy_in.Given as goal
 
 abbrev pub invariant-loop-i : goal.invariant-loop-i

@@ -11,7 +11,6 @@ use lib.Signed.{mag}
 use mir.Facts.{to_z_pos, to_z-of_z}
 use mir.Syntax.{w64}
 use mir.Val.{to_z}
-use borrow.Author.Rules.{rules}
 use Rattle.bus.specs.declared.ValueWidth.{ValueWidth}
 use Rattle.bus.specs.Width.{bits_of, to_signed}
 use Rattle.bus.proofs.Width.{sized}

@@ -11,7 +11,7 @@ unfolding map_at
 returns-then-bank-eq-BANK_LUMINAIRE_INFO c = rw c.if-bank-eq-BANK_LUMINAIRE_INFO.true
 
 pub returns-then-bank-lt-BANK_ACTIVE_ENERGY : goal.returns-then-bank-lt-BANK_ACTIVE_ENERGY
-returns-then-bank-lt-BANK_ACTIVE_ENERGY c = 
+returns-then-bank-lt-BANK_ACTIVE_ENERGY c =
     elim c.then-bank-lt-BANK_ACTIVE_ENERGY.either [
       | inl low ↦ no_map_low _ c.if-bank-eq-BANK_LUMINAIRE_INFO.false low
       | inr high ↦ no_map_high _ high.1

@@ -1,7 +1,7 @@
 -- `records::cut_plan::make_stores` meets its contract. The invariant: with the stores that are left, the bank ends as it does
 -- Assumes nothing.
 use mathlib.Core.Path.{◌≡◌, refl, sym, ap, ◌∙◌}
-use Prim.Native.Nat.{◌+◌, ◌-◌, ◌≤◌, ◌<◌}
+use Prim.Native.Nat.{◌+◌}
 use native.Mathlib.Omega.{arith}
 use lib.ListN.{length, get_or, set, drop, length-set}
 use lib.Seq.{set_out}
@@ -21,10 +21,10 @@ loop-i-preserved c =
     let i = c.loop-i.i in
     let bank = c.loop-i.bank in
     let made : c.if-offset-bank.bank ≡ set bank (get_or os i 0) (get_or vs i 0) =
-        elim c.if-offset-bank.branch [
-          | then-offset-bank w ↦ w.bank-is
-          | else-offset-bank w ↦ w.bank-is ∙ sym (set_out bank (get_or os i 0) (get_or vs i 0) w.if-offset-bank.false)
-        ]
+    elim c.if-offset-bank.branch [
+      | then-offset-bank w ↦ w.bank-is
+      | else-offset-bank w ↦ w.bank-is ∙ sym (set_out bank (get_or os i 0) (get_or vs i 0) w.if-offset-bank.false)
+    ]
     in
     (ap (stored_at (drop (i + 1) os) (drop (i + 1) vs)) made ∙ sym (store_next os vs bank i (omega arith) (omega arith)) ∙ c.loop-i.invariant.0, omega arith, ap length made ∙ length-set bank (get_or os i 0) (get_or vs i 0) ∙ c.loop-i.invariant.2)
 

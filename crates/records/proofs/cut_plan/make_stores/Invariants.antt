@@ -1,14 +1,10 @@
 -- `records::cut_plan::make_stores` meets its contract. The invariant: with the stores that are left, the bank ends as it does
 -- with all. The measure is what is left of them.
 -- Assumes nothing.
-use mathlib.Core.Path.{◌≡◌, refl, sym, ap, ◌∙◌}
-use mathlib.Core.Logic.{⊎_elim}
-use Prim.Native.Nat.{◌+◌, ◌-◌, ◌≤◌, ◌<◌}
-use native.Mathlib.Omega.{arith}
-use lib.ListN.{length, get_or, drop, length-set}
-use lib.Seq.{set_out}
+use mathlib.Core.Path.{◌≡◌}
+use Prim.Native.Nat.{◌-◌, ◌≤◌}
+use lib.ListN.{length, drop}
 use Rattle.records.specs.Cut.{stored_at}
-use Rattle.records.proofs.Cutting.{store_next, stores_done}
 use Rattle.records.proofs.cut_plan.make_stores.Given as goal
 
 abbrev pub invariant-loop-i : goal.invariant-loop-i

@@ -1,6 +1,5 @@
 -- `records::cut_plan::read_back` meets its contract.
 -- Assumes nothing.
-use borrow.Author.Rules.{rules}
 use Rattle.bank.specs.Calls.{calls_in}
 use Rattle.records.proofs.CutRuns.{start_refused, start_accepted, same_plan, run_refused, plan_refuses, run_accepted}
 use Rattle.records.proofs.cut_plan.read_back.Goals as goal

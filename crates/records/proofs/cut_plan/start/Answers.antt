@@ -1,6 +1,5 @@
 -- `records::cut_plan::start` meets its contract.
 -- Assumes nothing.
-use borrow.Author.Rules.{rules}
 use borrow.Author.Tests.{lt-ltb}
 use native.Mathlib.Omega.{arith}
 use Rattle.bank.specs.Refusal.{first_of}

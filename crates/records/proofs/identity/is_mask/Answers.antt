@@ -1,11 +1,8 @@
 -- `records::identity::is_mask` meets its contract. The invariant: the bytes from i on are all FF exactly if all are.
 -- Assumes nothing.
-use mathlib.Core.Path.{◌≡◌, refl, sym, ◌∙◌}
-use Prim.Native.Nat.{◌-◌}
+use mathlib.Core.Path.{refl, sym, ◌∙◌}
 use native.Mathlib.Omega.{arith}
 use borrow.Author.Tests.{ne_eqb, eq-eqb}
-use lib.ListN.{length, drop}
-use Rattle.records.specs.Places.{all_ff}
 use Rattle.records.proofs.Places.{not_ff, next_ff, end_ff}
 use Rattle.records.proofs.identity.is_mask.Goals as goal
 

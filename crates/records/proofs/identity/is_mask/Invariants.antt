@@ -1,13 +1,10 @@
 -- `records::identity::is_mask` meets its contract. The invariant: the bytes from i on are all FF exactly if all are.
 -- The measure is the number of bytes that are left.
 -- Assumes nothing.
-use mathlib.Core.Path.{◌≡◌, refl, sym, ◌∙◌}
+use mathlib.Core.Path.{◌≡◌}
 use Prim.Native.Nat.{◌-◌}
-use native.Mathlib.Omega.{arith}
-use borrow.Author.Tests.{ne_eqb, eq-eqb}
 use lib.ListN.{length, drop}
 use Rattle.records.specs.Places.{all_ff}
-use Rattle.records.proofs.Places.{not_ff, next_ff, end_ff}
 use Rattle.records.proofs.identity.is_mask.Given as goal
 
 abbrev pub invariant-loop-i : goal.invariant-loop-i

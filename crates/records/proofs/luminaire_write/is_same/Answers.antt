@@ -1,11 +1,8 @@
 -- `records::luminaire_write::is_same` meets its contract. The invariant: from index i on the bytes are as much the
 -- Assumes nothing.
-use mathlib.Core.Path.{◌≡◌, refl, sym, ◌∙◌}
-use Prim.Native.Nat.{◌-◌, ◌≤◌}
+use mathlib.Core.Path.{refl, sym, ◌∙◌}
 use native.Mathlib.Omega.{arith}
 use borrow.Author.Tests.{eq-eqb, ne_eqb}
-use lib.ListN.{length, drop}
-use Rattle.records.specs.Writes.{same}
 use Rattle.records.proofs.Held.{same_next, same_not, same_ended}
 use Rattle.records.proofs.luminaire_write.is_same.Goals as goal
 

@@ -1,13 +1,10 @@
 -- `records::luminaire_write::is_same` meets its contract. The invariant: from index i on the bytes are as much the
 -- same as from the first on. The measure is the number of bytes that are left.
 -- Assumes nothing.
-use mathlib.Core.Path.{◌≡◌, refl, sym, ◌∙◌}
+use mathlib.Core.Path.{◌≡◌}
 use Prim.Native.Nat.{◌-◌, ◌≤◌}
-use native.Mathlib.Omega.{arith}
-use borrow.Author.Tests.{eq-eqb, ne_eqb}
 use lib.ListN.{length, drop}
 use Rattle.records.specs.Writes.{same}
-use Rattle.records.proofs.Held.{same_next, same_not, same_ended}
 use Rattle.records.proofs.luminaire_write.is_same.Given as goal
 
 abbrev pub invariant-loop-i : goal.invariant-loop-i

@@ -40,6 +40,6 @@ returns-in-Some c =
     let e = c.lay_write.ensures in
     let own = ap (λ (b : List ℕ). write_stores (written a.index a.field b)) m.front ∙ sym (stores_of_write a.numbers a.text_field a.text.now a.index a.field m.is) in
     let l : Laid a.offsets.now a.values.now a.count (stores_at a.numbers a.text_field a.text.now a.index a.field) c.lay_write.new.offsets c.lay_write.new.values c.lay_write.result =
-        laid_same own (record { count = e.count; offsets = e.offsets; values = e.values })
+    laid_same own (record { count = e.count; offsets = e.offsets; values = e.values })
     in
     record { count = l.count; offsets = l.offsets; values = l.values }

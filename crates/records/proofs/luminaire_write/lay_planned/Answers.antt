@@ -18,6 +18,6 @@ returns-in-Some-clause-bytes c =
     let short : length told.bytes ≤ 256 = omega (arith, fit, c.requires.1.0.ends) in
     let laid = front_told told (replicate 256 0) c.field_write.ensures.stored short in
     let further =
-        one_planned a.numbers a.text_field a.text.now a.index a.field a.before a.fields.now a.lens.now a.bytes.now
-        told.is told.counts laid c.put.ensures c.put-in-Some.ensures c.put_all.ensures in
+    one_planned a.numbers a.text_field a.text.now a.index a.field a.before a.fields.now a.lens.now a.bytes.now
+    told.is told.counts laid c.put.ensures c.put-in-Some.ensures c.put_all.ensures in
     further.1.1.1

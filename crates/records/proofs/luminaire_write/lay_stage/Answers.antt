@@ -2,11 +2,10 @@
 -- Assumes nothing.
 use mathlib.Core.Path.{◌≡◌, refl, sym, ap, ◌∙◌}
 use mathlib.Core.List.{List}
-use Prim.Native.Nat.{ℕ, ◌+◌, ◌-◌, ◌≤◌}
+use Prim.Native.Nat.{ℕ, ◌+◌}
 use native.Mathlib.Omega.{arith}
-use borrow.Author.Rules.{rules}
 use lib.ListN.{length, get_or, set, take}
-use lib.Seq.{sets, take_all, length-sets}
+use lib.Seq.{sets, take_all}
 use Rattle.records.specs.Writes.{single_bytes, offsets_of}
 use Rattle.records.proofs.Laying.{sets_next}
 use Rattle.records.proofs.Stores.{offsets_length, offsets_at, values_are}

@@ -1,16 +1,11 @@
 -- `records::luminaire_write::lay_stage` meets its contract. The invariant: the stores of the first i bytes are laid.
 -- The measure is the number of bytes that are left.
 -- Assumes nothing.
-use mathlib.Core.Path.{◌≡◌, refl, sym, ap, ◌∙◌}
-use mathlib.Core.List.{List}
-use Prim.Native.Nat.{ℕ, ◌+◌, ◌-◌, ◌≤◌}
-use native.Mathlib.Omega.{arith}
-use borrow.Author.Rules.{rules}
-use lib.ListN.{length, get_or, set, take}
-use lib.Seq.{sets, take_all, length-sets}
+use mathlib.Core.Path.{◌≡◌}
+use Prim.Native.Nat.{◌+◌, ◌-◌, ◌≤◌}
+use lib.ListN.{length, take}
+use lib.Seq.{sets}
 use Rattle.records.specs.Writes.{single_bytes, offsets_of}
-use Rattle.records.proofs.Laying.{sets_next}
-use Rattle.records.proofs.Stores.{offsets_length, offsets_at, values_are}
 use Rattle.records.proofs.luminaire_write.lay_stage.Given as goal
 
 abbrev pub invariant-loop-i : goal.invariant-loop-i

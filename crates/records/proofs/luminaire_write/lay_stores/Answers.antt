@@ -1,16 +1,13 @@
 -- `records::luminaire_write::lay_stores` meets its contract. The invariant: the stores of the fields before an index
 -- Assumes nothing.
-use mathlib.Core.Path.{◌≡◌, ◌∙◌}
-use Prim.Native.Nat.{◌-◌, ◌*◌, ◌≤◌}
+use mathlib.Core.Path.{◌∙◌}
 use native.Mathlib.Nat.{zero-add}
 use native.Mathlib.Omega.{arith}
-use borrow.Author.Rules.{rules}
-use lib.ListN.{length, take}
+use lib.ListN.{length}
 use Rattle.bus.proofs.Lists.{sets_laid}
-use Rattle.bank.specs.Fields.{luminaire_fields}
-use Rattle.records.specs.Writes.{gather, stores_at, offsets_of, values_of, plan_stores}
+use Rattle.records.specs.Writes.{offsets_of, values_of, plan_stores}
 use Rattle.records.proofs.Table.{table_within, all_stores}
-use Rattle.records.proofs.Stores.{Laid, none_laid, laid_same, field_laid, field_few, offsets_kept, values_kept}
+use Rattle.records.proofs.Stores.{laid_same, field_laid, field_few}
 use Rattle.records.proofs.luminaire_write.lay_stores.Goals as goal
 
 pub lay_field-count-requires : goal.lay_field-count-requires

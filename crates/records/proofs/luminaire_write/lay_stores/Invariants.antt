@@ -1,17 +1,12 @@
 -- `records::luminaire_write::lay_stores` meets its contract. The invariant: the stores of the fields before an index
 -- are laid. The measure is the number of fields that are left.
 -- Assumes nothing.
-use mathlib.Core.Path.{◌≡◌, ◌∙◌}
+use mathlib.Core.Path.{◌≡◌}
 use Prim.Native.Nat.{◌-◌, ◌*◌, ◌≤◌}
-use native.Mathlib.Nat.{zero-add}
-use native.Mathlib.Omega.{arith}
-use borrow.Author.Rules.{rules}
-use lib.ListN.{length, take}
-use Rattle.bus.proofs.Lists.{sets_laid}
+use lib.ListN.{take}
 use Rattle.bank.specs.Fields.{luminaire_fields}
-use Rattle.records.specs.Writes.{gather, stores_at, offsets_of, values_of, plan_stores}
-use Rattle.records.proofs.Table.{table_within, all_stores}
-use Rattle.records.proofs.Stores.{Laid, none_laid, laid_same, field_laid, field_few, offsets_kept, values_kept}
+use Rattle.records.specs.Writes.{gather, stores_at}
+use Rattle.records.proofs.Stores.{Laid}
 use Rattle.records.proofs.luminaire_write.lay_stores.Given as goal
 
 abbrev pub invariant-loop-index : goal.invariant-loop-index

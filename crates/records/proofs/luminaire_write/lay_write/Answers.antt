@@ -24,8 +24,7 @@ loop-place-preserved c =
           let fits = stage_fits a.index a.field a.bytes.now s.2 l.place s.1 told in
           let laid = w.lay_stage-n.ensures in
           let d : Laid l.offsets l.values l.n (stage_stores a.bytes.now stage) m.offsets m.values m.n =
-              stage_laid stage.offset w.bytes.ensures (w.n-is ∙ laid.count) (w.offsets-is ∙ laid.offsets) (w.values-is ∙ laid.values) in
-          (
+          stage_laid stage.offset w.bytes.ensures (w.n-is ∙ laid.count) (w.offsets-is ∙ laid.offsets) (w.values-is ∙ laid.values) in (
             omega arith,
             s.1,
             s.2,
@@ -33,8 +32,7 @@ loop-place-preserved c =
             next_laid (stage_stores a.bytes.now) ss l.place s.4 told d,
           )
       | in_default w ↦
-          let told = told_stage (get_elem? ss l.place) c.stage_of.ensures w.in_default.is in
-          (
+          let told = told_stage (get_elem? ss l.place) c.stage_of.ensures w.in_default.is in (
             omega arith,
             s.1,
             s.2,

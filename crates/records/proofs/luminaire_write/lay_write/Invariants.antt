@@ -1,18 +1,11 @@
 -- `records::luminaire_write::lay_write` meets its contract. The invariant: the stores of the stages before a place are
 -- laid. The measure is the number of places that are left.
 -- Assumes nothing.
-use mathlib.Core.Path.{ap, ◌∙◌}
-use mathlib.Core.Logic.{⊎_elim}
 use Prim.Native.Nat.{◌+◌, ◌-◌, ◌*◌, ◌≤◌}
-use native.Mathlib.Omega.{arith}
-use borrow.Author.Rules.{rules}
-use lib.ListN.{length, take, get_elem?}
-use lib.Seq.{take_all}
+use lib.ListN.{length, take}
 use Rattle.records.specs.Steps.{WithinBank}
-use Rattle.records.specs.Writes.{flat, stages_of, part_of, stage_stores}
-use Rattle.records.proofs.Options.{told_stage}
-use Rattle.records.proofs.Stages.{single_count, stage_fits, few_stages}
-use Rattle.records.proofs.Stores.{Laid, none_laid, laid_same, laid_as, next_laid, none_next, stage_laid, offsets_kept, values_kept}
+use Rattle.records.specs.Writes.{flat, stages_of, stage_stores}
+use Rattle.records.proofs.Stores.{Laid}
 use Rattle.records.proofs.luminaire_write.lay_write.Given as goal
 
 abbrev pub invariant-loop-place : goal.invariant-loop-place

@@ -1,7 +1,6 @@
 -- `records::luminaire_write::number_refusal` meets its contract: the checks of `check_writable`, then one more.
 -- Assumes nothing.
 use mathlib.Core.Path.{sym, ap, ◌∙◌}
-use borrow.Author.Rules.{rules}
 use Rattle.bank.specs.declared.refusal.Refusal.TheVariants.{NumberNotAccepted}
 use Rattle.bank.specs.Options.{option_refusal}
 use Rattle.records.proofs.Refusals.{alone_passed, alone_refused, refused_behind, passed_behind, rejects_is}

@@ -1,12 +1,11 @@
 -- `records::luminaire_write::number_write` meets its contract. The invariant: the first i low bytes are stored. The
 -- Assumes nothing.
-use mathlib.Core.Path.{◌≡◌, refl, sym, ap, ◌∙◌}
+use mathlib.Core.Path.{refl, sym, ap, ◌∙◌}
 use mathlib.Core.List.{List}
-use Prim.Native.Nat.{ℕ, ◌-◌, ◌≤◌}
+use Prim.Native.Nat.{ℕ}
 use native.Mathlib.Omega.{arith}
-use borrow.Author.Rules.{rules}
-use lib.ListN.{length, get_or, set, take}
-use lib.Seq.{sets, take_all, length-sets}
+use lib.ListN.{get_or, set}
+use lib.Seq.{sets, take_all}
 use Rattle.bus.specs.Number.{low_bytes}
 use Rattle.bus.proofs.Number.{length_low_bytes, low_bytes_at}
 use Rattle.bank.proofs.Options.{told_u32}

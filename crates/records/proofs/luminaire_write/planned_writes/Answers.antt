@@ -1,15 +1,11 @@
 -- `records::luminaire_write::planned_writes` meets its contract. The invariant: the writes of the fields before an
 -- Assumes nothing.
-use mathlib.Core.Path.{◌≡◌, ◌∙◌}
-use Prim.Native.Nat.{◌-◌, ◌*◌, ◌≤◌}
+use mathlib.Core.Path.{◌∙◌}
 use native.Mathlib.Omega.{arith}
-use borrow.Author.Rules.{rules}
-use lib.ListN.{take}
 use Rattle.bus.proofs.Lists.{sets_laid}
-use Rattle.bank.specs.Fields.{luminaire_fields}
-use Rattle.records.specs.Writes.{gather, writes_at, planned_writes, indices, lengths, all_bytes}
+use Rattle.records.specs.Writes.{planned_writes, indices, lengths, all_bytes}
 use Rattle.records.proofs.Table.{table_within}
-use Rattle.records.proofs.Planned.{Planned, none_planned, field_planned, counts_few, all_planned, fields_kept, lens_kept, bytes_kept, planned_as}
+use Rattle.records.proofs.Planned.{none_planned, field_planned, counts_few, all_planned, planned_as}
 use Rattle.records.proofs.luminaire_write.planned_writes.Goals as goal
 
 pub loop-index-init : goal.loop-index-init

@@ -1,16 +1,12 @@
 -- `records::luminaire_write::planned_writes` meets its contract. The invariant: the writes of the fields before an
 -- index are laid. The measure is the number of fields that are left.
 -- Assumes nothing.
-use mathlib.Core.Path.{◌≡◌, ◌∙◌}
+use mathlib.Core.Path.{◌≡◌}
 use Prim.Native.Nat.{◌-◌, ◌*◌, ◌≤◌}
-use native.Mathlib.Omega.{arith}
-use borrow.Author.Rules.{rules}
 use lib.ListN.{take}
-use Rattle.bus.proofs.Lists.{sets_laid}
 use Rattle.bank.specs.Fields.{luminaire_fields}
-use Rattle.records.specs.Writes.{gather, writes_at, planned_writes, indices, lengths, all_bytes}
-use Rattle.records.proofs.Table.{table_within}
-use Rattle.records.proofs.Planned.{Planned, none_planned, field_planned, counts_few, all_planned, fields_kept, lens_kept, bytes_kept, planned_as}
+use Rattle.records.specs.Writes.{gather, writes_at}
+use Rattle.records.proofs.Planned.{Planned}
 use Rattle.records.proofs.luminaire_write.planned_writes.Given as goal
 
 abbrev pub invariant-loop-index : goal.invariant-loop-index

@@ -1,7 +1,6 @@
 -- `records::luminaire_write::text_refusal` meets its contract: the checks of `check_writable`, then those of the text.
 -- Assumes nothing.
 use mathlib.Core.Path.{sym, ap, ◌∙◌}
-use borrow.Author.Rules.{rules}
 use Rattle.bank.specs.Options.{option_refusal}
 use Rattle.bank.specs.Writable.{text_checks}
 use Rattle.records.proofs.Refusals.{refused_behind, passed_behind}

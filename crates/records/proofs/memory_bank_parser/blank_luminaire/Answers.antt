@@ -1,7 +1,6 @@
 -- `records::memory_bank_parser::blank_luminaire` meets its contract: no number and no text.
 -- Assumes nothing.
 use mathlib.Core.Option.{bind}
-use borrow.Author.Rules.{rules}
 use Rattle.bank.specs.Fields.{luminaire_fields}
 use Rattle.records.proofs.memory_bank_parser.blank_luminaire.Goals as goal
 

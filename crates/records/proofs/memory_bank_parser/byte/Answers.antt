@@ -2,10 +2,9 @@
 -- Assumes nothing.
 use mathlib.Core.Path.{sym, ap}
 use native.Mathlib.Omega.{arith}
-use borrow.Author.Rules.{rules}
 use Rattle.bus.specs.declared.OptionU8.{OptionU8}
 use Rattle.bus.proofs.Number.{number_one}
-use Rattle.records.proofs.Places.{before, behind, whole}
+use Rattle.records.proofs.Places.{whole}
 use Rattle.records.proofs.memory_bank_parser.byte.Goals as goal
 
 pub returns : goal.returns

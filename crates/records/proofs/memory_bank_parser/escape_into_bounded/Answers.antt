@@ -2,7 +2,6 @@
 -- Assumes nothing.
 use mathlib.Core.Path.{sym}
 use Prim.Native.Nat.{◌≤◌}
-use borrow.Author.Rules.{rules}
 use lib.Seq.{length-take-le}
 use Rattle.records.proofs.Texts.{at_most_64, bounded}
 use Rattle.records.proofs.memory_bank_parser.escape_into_bounded.Goals as goal

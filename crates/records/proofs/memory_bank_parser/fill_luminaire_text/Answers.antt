@@ -1,6 +1,5 @@
 -- `records::memory_bank_parser::fill_luminaire_text` meets its contract, text by text.
 -- Assumes nothing.
-use borrow.Author.Rules.{rules}
 use Rattle.bank.specs.Fields.{luminaire_fields}
 use Rattle.records.proofs.Luminaire.{from_first, had_from}
 use Rattle.records.proofs.memory_bank_parser.fill_luminaire_text.Goals as goal

@@ -1,6 +1,5 @@
 -- `records::memory_bank_parser::parse_bank0_bus_unit` meets its contract, member by member.
 -- Assumes nothing.
-use borrow.Author.Rules.{rules}
 use Rattle.records.proofs.memory_bank_parser.parse_bank0_bus_unit.Goals as goal
 
 pub returns : goal.returns

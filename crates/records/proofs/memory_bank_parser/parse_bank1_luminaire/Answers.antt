@@ -2,7 +2,6 @@
 -- Assumes nothing.
 use mathlib.Core.Path.{refl, ap}
 use mathlib.Core.Option.{bind}
-use borrow.Author.Rules.{rules}
 use Rattle.bus.specs.Part251.{format_of}
 use Rattle.bus.proofs.Options.{told_format}
 use Rattle.bank.specs.Fields.{luminaire_fields}

@@ -3,8 +3,6 @@
 use mathlib.Core.Path.{◌≡◌, sym, ap, ◌∙◌}
 use Prim.Native.Nat.{ℕ, ◌+◌, ◌-◌}
 use native.Mathlib.Omega.{arith}
-use borrow.Author.Tests.{not-true, not-false}
-use borrow.Author.Rules.{rules}
 use lib.ListN.{take, drop}
 use Rattle.bus.specs.declared.OptionU64.{OptionU64}
 use Rattle.bus.proofs.Number.{number_part}

@@ -2,8 +2,6 @@
 -- Assumes nothing.
 use mathlib.Core.Path.{sym, ◌∙◌}
 use mathlib.Core.Option.{bind}
-use borrow.Author.Tests.{not-true, not-false}
-use borrow.Author.Rules.{rules}
 use Rattle.bank.specs.Fields.{luminaire_fields}
 use Rattle.records.proofs.memory_bank_parser.parse_lamp_current.Goals as goal
 

@@ -1,7 +1,6 @@
 -- `records::memory_bank_parser::parse_luminaire_numbers` meets its contract, member by member.
 -- Assumes nothing.
 use mathlib.Core.Option.{bind}
-use borrow.Author.Rules.{rules}
 use Rattle.bank.specs.Fields.{luminaire_fields}
 use Rattle.records.proofs.Luminaire.{from_first}
 use Rattle.records.proofs.memory_bank_parser.parse_luminaire_numbers.Goals as goal

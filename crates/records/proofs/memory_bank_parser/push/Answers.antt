@@ -1,11 +1,10 @@
 -- `records::memory_bank_parser::push` meets its contract. The invariant: the first i bytes of the piece are stored. The
 -- Assumes nothing.
 use mathlib.Core.Path.{◌≡◌, refl, ap, ◌∙◌}
-use mathlib.Core.List.{List, ◌++◌}
-use Prim.Native.Nat.{◌+◌, ◌-◌, ◌≤◌}
+use mathlib.Core.List.{List}
 use native.Mathlib.Omega.{arith}
 use borrow.Author.Tests.{le-leb, lt-leb}
-use lib.ListN.{length, get_or, set, take, drop, length-set}
+use lib.ListN.{length, get_or, set, length-set}
 use Rattle.bus.proofs.Lists.{laid_suc, laid_all}
 use Rattle.records.proofs.memory_bank_parser.push.Goals as goal
 

@@ -1,13 +1,10 @@
 -- `records::memory_bank_parser::push` meets its contract. The invariant: the first i bytes of the piece are stored. The
 -- measure is what is left of it.
 -- Assumes nothing.
-use mathlib.Core.Path.{◌≡◌, refl, ap, ◌∙◌}
-use mathlib.Core.List.{List, ◌++◌}
-use Prim.Native.Nat.{◌+◌, ◌-◌, ◌≤◌}
-use native.Mathlib.Omega.{arith}
-use borrow.Author.Tests.{le-leb, lt-leb}
-use lib.ListN.{length, get_or, set, take, drop, length-set}
-use Rattle.bus.proofs.Lists.{laid_suc, laid_all}
+use mathlib.Core.Path.{◌≡◌}
+use mathlib.Core.List.{◌++◌}
+use Prim.Native.Nat.{◌-◌, ◌≤◌}
+use lib.ListN.{length, take, drop}
 use Rattle.records.proofs.memory_bank_parser.push.Given as goal
 
 abbrev pub invariant-loop-i : goal.invariant-loop-i

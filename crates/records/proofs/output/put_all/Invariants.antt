@@ -1,13 +1,10 @@
 -- `records::output::put_all` meets its contract. The invariant: the first i bytes are stored. The measure is the
 -- number of those that are left.
 -- Assumes nothing.
-use mathlib.Core.Path.{◌≡◌, refl, sym, ap, ◌∙◌}
-use mathlib.Core.List.{List}
-use Prim.Native.Nat.{ℕ, ◌+◌, ◌-◌, ◌≤◌}
-use native.Mathlib.Omega.{arith}
-use lib.ListN.{length, get_or, set, take}
-use lib.Seq.{sets, take_all, length-sets}
-use Rattle.records.proofs.Laying.{sets_behind, sets_full, sets_next}
+use mathlib.Core.Path.{◌≡◌}
+use Prim.Native.Nat.{◌+◌, ◌-◌, ◌≤◌}
+use lib.ListN.{length, take}
+use lib.Seq.{sets}
 use Rattle.records.proofs.output.put_all.Given as goal
 
 abbrev pub invariant-loop-i : goal.invariant-loop-i

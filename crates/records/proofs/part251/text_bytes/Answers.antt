@@ -1,7 +1,6 @@
 -- `records::part251::text_bytes` meets its contract: the part of a region that is there.
 -- Assumes nothing.
 use borrow.Author.Tests.{le-leb, lt-leb}
-use borrow.Author.Rules.{rules}
 use Rattle.records.proofs.Texts.{part_before}
 use Rattle.records.proofs.part251.text_bytes.Goals as goal
 

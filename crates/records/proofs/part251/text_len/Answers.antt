@@ -1,11 +1,7 @@
 -- `records::part251::text_len` meets its contract. The invariant: none of the first i bytes is 00. The measure is
 -- Assumes nothing.
-use mathlib.Core.Path.{◌≡◌, refl}
-use mathlib.Core.List.{◌++◌}
-use Prim.Native.Nat.{◌+◌, ◌-◌, ◌≤◌}
+use mathlib.Core.Path.{refl}
 use native.Mathlib.Omega.{arith}
-use lib.ListN.{length, take, drop}
-use Rattle.records.specs.Text.{until_zero}
 use Rattle.records.proofs.Texts.{zero_at, next_byte, no_byte}
 use Rattle.records.proofs.part251.text_len.Goals as goal
 

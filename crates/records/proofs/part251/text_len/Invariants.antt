@@ -1,13 +1,11 @@
 -- `records::part251::text_len` meets its contract. The invariant: none of the first i bytes is 00. The measure is
 -- the number of bytes that are left.
 -- Assumes nothing.
-use mathlib.Core.Path.{◌≡◌, refl}
+use mathlib.Core.Path.{◌≡◌}
 use mathlib.Core.List.{◌++◌}
-use Prim.Native.Nat.{◌+◌, ◌-◌, ◌≤◌}
-use native.Mathlib.Omega.{arith}
+use Prim.Native.Nat.{◌-◌, ◌≤◌}
 use lib.ListN.{length, take, drop}
 use Rattle.records.specs.Text.{until_zero}
-use Rattle.records.proofs.Texts.{zero_at, next_byte, no_byte}
 use Rattle.records.proofs.part251.text_len.Given as goal
 
 abbrev pub invariant-loop-i : goal.invariant-loop-i

@@ -1,16 +1,11 @@
 -- `records::utf8::followed` meets its contract. The invariant: what is asked of all bytes is asked of those from i on. The
 -- measure is the number of bytes that are left.
 -- Assumes nothing.
-use mathlib.Core.Path.{◌≡◌, sym, ap, ◌∙◌}
-use mathlib.Core.Bool.{Bool, ◌&&◌}
+use mathlib.Core.Path.{◌≡◌}
 use mathlib.Core.List.{◌∷◌}
-use Prim.Native.Nat.{suc, ◌+◌, ◌-◌, ◌≤◌, ◌<◌}
-use native.Mathlib.Omega.{arith}
-use borrow.Author.Tests.{not-true, not-false}
-use borrow.Author.Rules.{rules}
-use lib.ListN.{length, drop, replicate, length-drop, length-replicate}
+use Prim.Native.Nat.{◌-◌, ◌≤◌}
+use lib.ListN.{drop, replicate}
 use Rattle.records.specs.Utf8.{to, tail, follow}
-use Rattle.records.proofs.Sequences.{next, next_tail, no_more, too_few}
 use Rattle.records.proofs.utf8.followed.Given as goal
 
 abbrev pub invariant-loop-i : goal.invariant-loop-i

@@ -2,7 +2,6 @@
 -- Assumes nothing.
 use mathlib.Core.Path.{refl, sym, ◌∙◌}
 use native.Mathlib.Omega.{arith}
-use borrow.Author.Rules.{rules}
 use Rattle.records.specs.Utf8.{table3_7, follow}
 use Rattle.records.proofs.Sequences.{row_of, no_row_under, no_row_over}
 use Rattle.records.proofs.utf8.sequence_len.Goals as goal

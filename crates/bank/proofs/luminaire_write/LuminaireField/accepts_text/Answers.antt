@@ -1,7 +1,6 @@
 -- `bank::luminaire_write::LuminaireField::accepts_text` meets its contract: a text is accepted where none of its checks applies.
 -- Assumes nothing.
 use mathlib.Core.Path.{◌≡◌, sym, ap, ◌∙◌}
-use borrow.Author.Rules.{rules}
 use Rattle.bank.specs.declared.refusal.OptionRefusal.{OptionRefusal}
 use Rattle.bank.specs.Refusal.{first_of}
 use Rattle.bank.specs.Fields.{accepts_text}

@@ -2,7 +2,6 @@
 -- Assumes nothing.
 use mathlib.Core.Path.{ap}
 use native.Mathlib.Omega.{arith}
-use borrow.Author.Rules.{rules}
 use lib.Dec.{lit≤}
 use Rattle.bus.proofs.Lists.{entry_in, entry_out}
 use Rattle.bank.specs.Options.{option_luminaire_field}

@@ -1,6 +1,5 @@
 -- `bank::luminaire_write::LuminaireField::of_text` meets its contract, text by text.
 -- Assumes nothing.
-use borrow.Author.Rules.{rules}
 use Rattle.bank.specs.Fields.{luminaire_fields, place_of}
 use Rattle.bank.proofs.luminaire_write.LuminaireField.of_text.Goals as goal
 

@@ -5,8 +5,7 @@ use mathlib.Core.Path.{◌≡◌, sym, ap, ◌∙◌}
 use mathlib.Core.Bool.{true}
 use mathlib.Core.Option.{Option}
 use Prim.Native.Nat.{ℕ}
-use borrow.Author.Tests.{lt-ltb, not-true, not-false}
-use borrow.Author.Rules.{rules}
+use borrow.Author.Tests.{lt-ltb}
 use Rattle.bank.specs.Refusal.{first_of}
 use Rattle.bank.specs.Fields.{first_not_printable, is_text_kind}
 use Rattle.bank.specs.Options.{option_refusal}

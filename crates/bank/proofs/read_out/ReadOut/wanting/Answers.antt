@@ -3,7 +3,6 @@
 -- the read-out and the budget are not refused
 use mathlib.Core.Path.{◌≡◌, sym, ap, ◌∙◌}
 use mathlib.Core.Option.{none}
-use borrow.Author.Rules.{rules}
 use Rattle.bank.specs.declared.read_out.Wanted.TheVariants.{Chunk}
 use Rattle.bank.specs.Refusal.{first_of}
 use Rattle.bank.specs.ReadOut.{want_checks, wanting}

@@ -1,13 +1,11 @@
 -- `bus::layout::FieldMap::containing` meets its contract. The invariant: the search from field i on finds what the search
 -- Assumes nothing.
-use mathlib.Core.Path.{◌≡◌, refl, sym, ap, ◌∙◌}
-use Prim.Native.Nat.{◌-◌, ◌≤◌}
+use mathlib.Core.Path.{refl, sym, ap, ◌∙◌}
+use Prim.Native.Nat.{◌≤◌}
 use native.Mathlib.Omega.{arith}
-use borrow.Author.Rules.{rules}
-use lib.ListN.{length, drop}
+use lib.ListN.{length}
 use Rattle.bus.specs.declared.ValueWidth.TheVariants.{U8}
 use Rattle.bus.specs.Options.{option_bank_field}
-use Rattle.bus.specs.Maps.{entries, holds, first_with}
 use Rattle.bus.proofs.Lists.{found, passed, ended}
 use Rattle.bus.proofs.layout.FieldMap.containing.Goals as goal
 use Rattle.bus.proofs.layout.FieldMap.containing.Goals.{At-loop-i}

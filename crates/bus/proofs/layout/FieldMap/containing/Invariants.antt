@@ -1,16 +1,10 @@
 -- `bus::layout::FieldMap::containing` meets its contract. The invariant: the search from field i on finds what the search
 -- of the whole map finds. The measure is the number of fields that are left.
 -- Assumes nothing.
-use mathlib.Core.Path.{◌≡◌, refl, sym, ap, ◌∙◌}
-use Prim.Native.Nat.{◌-◌, ◌≤◌}
-use native.Mathlib.Omega.{arith}
-use borrow.Author.Rules.{rules}
-use lib.ListN.{length, drop}
-use Rattle.bus.specs.declared.ValueWidth.TheVariants.{U8}
-use Rattle.bus.specs.Options.{option_bank_field}
+use mathlib.Core.Path.{◌≡◌}
+use Prim.Native.Nat.{◌-◌}
+use lib.ListN.{drop}
 use Rattle.bus.specs.Maps.{entries, holds, first_with}
-use Rattle.bus.proofs.Lists.{found, passed, ended}
-use Rattle.bus.proofs.Maps.{table_room}
 use Rattle.bus.proofs.layout.FieldMap.containing.Given as goal
 
 abbrev pub invariant-loop-i : goal.invariant-loop-i

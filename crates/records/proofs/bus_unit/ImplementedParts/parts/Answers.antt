@@ -1,17 +1,13 @@
 -- `records::bus_unit::ImplementedParts::parts` meets its contract. The invariant: the parts of the bits below one are stored.
 -- Assumes nothing.
 use mathlib.Core.Path.{◌≡◌, sym, ap, ◌∙◌}
-use mathlib.Core.Logic.{⊎_elim}
 use mathlib.Core.List.{List}
-use Prim.Native.Nat.{ℕ, ◌-◌, ◌≤◌}
+use Prim.Native.Nat.{ℕ}
 use native.Mathlib.Omega.{arith}
-use borrow.Author.Tests.{not-true, not-false}
-use borrow.Author.Rules.{rules}
 use lib.ListN.{length}
 use Rattle.bus.specs.Value.{laid_into}
-use Rattle.bus.proofs.Lists.{laid_keeps}
 use Rattle.records.specs.BusUnit.{parts_of}
-use Rattle.records.proofs.Parts.{below, Stored, set_bit, clear_bit, no_part, nothing_stored, all_bits}
+use Rattle.records.proofs.Parts.{below, set_bit, clear_bit, no_part, nothing_stored, all_bits}
 use Rattle.records.proofs.bus_unit.ImplementedParts.parts.Goals as goal
 use Rattle.records.proofs.bus_unit.ImplementedParts.parts.Goals.{else-self-bit-eq1, then-self-bit-eq1}
 
@@ -32,14 +28,13 @@ overflow_add-count c =
     omega (arith, c.loop-bit.invariant.1.few)
 
 pub loop-bit-preserved : goal.loop-bit-preserved
-loop-bit-preserved c =
-    (
-      omega arith,
-      elim c.if-self-bit-eq1.branch [
-        | then-self-bit-eq1 w ↦ set_bit c.loop-bit.invariant.1 w.if-self-bit-eq1.true (w.out-is ∙ w.store.ensures) w.count-is
-        | else-self-bit-eq1 w ↦ clear_bit c.loop-bit.invariant.1 w.if-self-bit-eq1.false w.out-is w.count-is
-      ],
-    )
+loop-bit-preserved c = (
+  omega arith,
+  elim c.if-self-bit-eq1.branch [
+    | then-self-bit-eq1 w ↦ set_bit c.loop-bit.invariant.1 w.if-self-bit-eq1.true (w.out-is ∙ w.store.ensures) w.count-is
+    | else-self-bit-eq1 w ↦ clear_bit c.loop-bit.invariant.1 w.if-self-bit-eq1.false w.out-is w.count-is
+  ],
+)
 
 pub returns : goal.returns
 returns c =

@@ -2,7 +2,6 @@
 -- Assumes nothing.
 use mathlib.Core.Path.{sym, ◌∙◌}
 use native.Mathlib.Omega.{arith}
-use borrow.Author.Rules.{rules}
 use Rattle.records.proofs.Window.{no_bytes, too_short, cut_short, its_window}
 use Rattle.records.proofs.identity.IdentityRead.of_bank0.Goals as goal
 

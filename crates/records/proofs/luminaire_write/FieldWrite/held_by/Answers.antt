@@ -1,10 +1,8 @@
 -- `records::luminaire_write::FieldWrite::held_by` meets its contract, by the end that its field gives.
 -- Assumes nothing.
-use mathlib.Core.Path.{◌≡◌, sym, ◌∙◌}
-use mathlib.Core.Option.{some}
+use mathlib.Core.Path.{sym, ◌∙◌}
 use Prim.Native.Nat.{◌-◌}
 use native.Mathlib.Omega.{arith}
-use borrow.Author.Rules.{rules}
 use lib.ListN.{drop, length-take, length-drop}
 use lib.Seq.{length-take-le}
 use Rattle.bank.proofs.Options.{told_index}

@@ -1,6 +1,5 @@
 -- `records::luminaire_write::FieldWrite::stage` meets its contract, by the field that `of_index` finds.
 -- Assumes nothing.
-use borrow.Author.Rules.{rules}
 use lib.ListN.{get_elem?}
 use Rattle.bank.specs.Fields.{luminaire_fields}
 use Rattle.bank.proofs.Options.{told_field}

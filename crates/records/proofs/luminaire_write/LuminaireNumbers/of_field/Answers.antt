@@ -1,6 +1,5 @@
 -- `records::luminaire_write::LuminaireNumbers::of_field` meets its contract, by what `of_patch` ensures.
 -- Assumes nothing.
-use borrow.Author.Rules.{rules}
 use Rattle.records.proofs.luminaire_write.LuminaireNumbers.of_field.Goals as goal
 
 pub returns-in-Number : goal.returns-in-Number

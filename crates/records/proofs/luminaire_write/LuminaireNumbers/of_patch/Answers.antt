@@ -4,7 +4,6 @@
 use mathlib.Core.Path.{ap}
 use native.Mathlib.Omega.{arith}
 use borrow.Author.Tests.{eq-eqb, ne_eqb}
-use borrow.Author.Rules.{rules}
 use Rattle.bank.specs.Options.{option_u32}
 use Rattle.records.proofs.Numbers.{number_over, number_unset, number_set}
 use Rattle.records.proofs.luminaire_write.LuminaireNumbers.of_patch.Goals as goal

@@ -3,8 +3,6 @@
 -- the checks of the wanted number
 use mathlib.Core.Path.{sym, ap, ◌∙◌}
 use mathlib.Core.List.{List}
-use borrow.Author.Tests.{not-true, not-false}
-use borrow.Author.Rules.{rules}
 use Rattle.bank.specs.Refusal.{Check, first_of}
 use Rattle.bank.specs.Options.{option_refusal}
 use Rattle.bank.proofs.Options.{told_refusal}

@@ -1,16 +1,9 @@
 -- `records::luminaire_write::Plan::fields_refusal` meets its contract. The invariant: no check of the fields before an
 -- Assumes nothing.
-use mathlib.Core.Path.{◌≡◌, sym, ap}
-use mathlib.Core.Option.{none}
-use Prim.Native.Nat.{◌-◌, ◌≤◌}
+use mathlib.Core.Path.{sym, ap}
 use native.Mathlib.Omega.{arith}
-use borrow.Author.Rules.{rules}
-use lib.ListN.{take}
-use Rattle.bank.specs.Refusal.{first_of}
-use Rattle.bank.specs.Fields.{luminaire_fields}
 use Rattle.bank.specs.Options.{option_refusal}
 use Rattle.bank.proofs.Options.{told_refusal}
-use Rattle.records.specs.Writes.{gather}
 use Rattle.records.specs.Plan.{field_checks}
 use Rattle.records.proofs.Refusals.{first_none, field_passed, field_refused, fields_passed}
 use Rattle.records.proofs.luminaire_write.Plan.fields_refusal.Goals as goal

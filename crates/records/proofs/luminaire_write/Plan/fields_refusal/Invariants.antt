@@ -1,19 +1,14 @@
 -- `records::luminaire_write::Plan::fields_refusal` meets its contract. The invariant: no check of the fields before an
 -- index applies. The measure is the number of fields that are left.
 -- Assumes nothing.
-use mathlib.Core.Path.{◌≡◌, sym, ap}
+use mathlib.Core.Path.{◌≡◌}
 use mathlib.Core.Option.{none}
 use Prim.Native.Nat.{◌-◌, ◌≤◌}
-use native.Mathlib.Omega.{arith}
-use borrow.Author.Rules.{rules}
 use lib.ListN.{take}
 use Rattle.bank.specs.Refusal.{first_of}
 use Rattle.bank.specs.Fields.{luminaire_fields}
-use Rattle.bank.specs.Options.{option_refusal}
-use Rattle.bank.proofs.Options.{told_refusal}
 use Rattle.records.specs.Writes.{gather}
 use Rattle.records.specs.Plan.{field_checks}
-use Rattle.records.proofs.Refusals.{first_none, field_passed, field_refused, fields_passed}
 use Rattle.records.proofs.luminaire_write.Plan.fields_refusal.Given as goal
 
 abbrev pub invariant-loop-index : goal.invariant-loop-index

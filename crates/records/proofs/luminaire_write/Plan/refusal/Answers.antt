@@ -3,7 +3,6 @@
 use mathlib.Core.Path.{sym, ◌∙◌}
 use native.Mathlib.Omega.{arith}
 use borrow.Author.Tests.{lt-ltb, le-ltb}
-use borrow.Author.Rules.{rules}
 use Rattle.bank.specs.Refusal.{first_of}
 use Rattle.records.specs.Plan.{plan_checks}
 use Rattle.records.proofs.luminaire_write.Plan.refusal.Goals as goal

@@ -3,12 +3,9 @@
 use mathlib.Core.Path.{◌≡◌}
 use mathlib.Core.Option.{none}
 use native.Mathlib.Omega.{arith}
-use borrow.Author.Rules.{rules}
-use Rattle.bus.proofs.Lists.{laid_keeps}
 use Rattle.bank.specs.Refusal.{first_of}
 use Rattle.bank.proofs.Options.{told_refusal}
-use Rattle.records.specs.Writes.{offsets_of, values_of}
-use Rattle.records.specs.Plan.{plan_checks, stores_of}
+use Rattle.records.specs.Plan.{plan_checks}
 use Rattle.records.proofs.Plans.{plan_refused, offsets_short, values_short, plan_accepted}
 use Rattle.records.proofs.luminaire_write.Plan.stores.Goals as goal
 use Rattle.records.proofs.luminaire_write.Plan.stores.Goals.{In_default}

@@ -1,6 +1,5 @@
 -- `records::luminaire_write::Plan::wanted_refusal` meets its contract, by the number that is wanted.
 -- Assumes nothing.
-use borrow.Author.Rules.{rules}
 use Rattle.bank.specs.Refusal.{first_of}
 use Rattle.bank.proofs.Options.{told_u32}
 use Rattle.records.specs.Writes.{wanted_number}

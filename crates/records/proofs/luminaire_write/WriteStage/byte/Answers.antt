@@ -4,7 +4,6 @@ use mathlib.Core.Path.{ap, ◌∙◌}
 use mathlib.Core.List.{List}
 use Prim.Native.Nat.{ℕ}
 use native.Mathlib.Omega.{arith}
-use borrow.Author.Rules.{rules}
 use lib.ListN.{get_elem?}
 use Rattle.bus.specs.Options.{option_u8}
 use Rattle.bus.proofs.Lists.{element_in, element_out}
