@@ -7,14 +7,14 @@ use native.Mathlib.Nat.{mod-lt}
 use native.Mathlib.Omega.{arith}
 use lib.Pow.{pow_pos, pow_mono}
 use lib.IntN.{pos, ◌-ℤ◌}
-use lib.Signed.{mag}
 use mir.Facts.{to_z_pos, to_z-of_z}
 use mir.Syntax.{w64}
 use mir.Val.{to_z}
+use Rattle.std.proofs.lemmas.Int.{ints}
 use Rattle.bus.specs.declared.ValueWidth.{ValueWidth}
 use Rattle.bus.specs.Width.{bits_of, to_signed}
 use Rattle.bus.proofs.Width.{sized}
-use Rattle.bus.proofs.Signed.{meaning_fits, sign_without_branch}
+use Rattle.bus.proofs.Signed.{sign_without_branch}
 use Rattle.bus.proofs.ValueWidth.to_signed.Goals as goal
 use Rattle.bus.proofs.ValueWidth.to_signed.Goals.{After-power_of_two-range}
 
@@ -57,11 +57,6 @@ module _ (c : After-power_of_two-range) where
       rw (to_z_pos w64 (remainder_small (Raw % Range + Half)), to_z_pos w64 half_small)
       (ap (λ (r : ℕ). pos ((Raw % r + r / 2) % r) -ℤ pos (r / 2)) range_is ∙ sign_without_branch (bits_of Width) Raw some_bits)
 
-  meaning_small : mag (to_signed Width Raw) < 2 ^ 63
-  meaning_small =
-      let in-range = meaning_fits (bits_of Width) (Raw % 2 ^ bits_of Width) some_bits (mod-lt Raw (pow_pos (bits_of Width))) in
-      omega (arith, small_range, range_is, in-range)
-
 pub overflow_mul-bytes : goal.overflow_mul-bytes
 overflow_mul-bytes c = omega (arith, sized c.args.self)
 
@@ -75,7 +70,9 @@ pub overflow_cast-result : goal.overflow_cast-result
 overflow_cast-result c = record { sfits = remainder_small (goal.at.overflow_cast-result c).After-power_of_two-range _ }
 
 pub overflow_sub-result : goal.overflow_sub-result
-overflow_sub-result c = rw (meaning (goal.at.overflow_sub-result c).After-power_of_two-range) (record { sfits = meaning_small (goal.at.overflow_sub-result c).After-power_of_two-range })
+overflow_sub-result c =
+    let at = (goal.at.overflow_sub-result c).After-power_of_two-range in
+    omega (arith, ints, remainder_small at, half_small at)
 
 pub returns : goal.returns
 returns c = to_z-of_z (overflow_sub-result c) ∙ meaning (goal.at.returns c).After-power_of_two-range
