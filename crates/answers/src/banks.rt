@@ -72,7 +72,7 @@ fn put_encoded(raw: u64, width: ValueWidth, out: &mut [u8], text: &mut [u8], n: 
 fn encode_value(request: &[u8], text: &mut [u8], n: usize) -> usize {
     let raw = line::u64_at(request, 1);
     let width = line::width_at(request, 9);
-    let mut space = io::buffer();
+    let mut space = line::buffer();
     let len = line::copy(line::slice_at(request, 10), &mut space);
     put_encoded(raw, width, &mut space[..len], text, n)
 }

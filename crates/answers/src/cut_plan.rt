@@ -67,10 +67,10 @@ fn read_back(request: &[u8], text: &mut [u8], n: usize) -> usize {
     let at = luminaire_write::option_end(request, 1 + plan::NUMBERS_BYTES, 8);
     let behind_letters = line::behind_slice(request, at);
     let behind_chunks = line::behind_slice(line::behind_u16_slice(behind_letters, 8), 0);
-    let mut bank = io::buffer();
+    let mut bank = line::buffer();
     let bank_len = line::copy(line::slice_at(behind_chunks, 0), &mut bank);
     let behind_bank = line::behind_slice(behind_chunks, 0);
-    let mut buffer = io::buffer();
+    let mut buffer = line::buffer();
     let buffer_len = line::copy(line::slice_at(behind_bank, 0), &mut buffer);
     with_calls(
         request,

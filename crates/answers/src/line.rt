@@ -2,7 +2,7 @@
 // A request that is too short reads as 0 where it ends, and an answer stops where its text is full:
 // both show as a difference.
 ghost use Rattle.std.specs.Prelude.{◌≡◌, ◌+◌, ◌≤◌, length};
-ghost use Rattle.io.specs.Counts.{IsPrefixLen};
+ghost use Rattle.std.specs.Counts.{IsPrefixLen};
 
 use bank::{OptionU16, OptionU32, OptionUsize, Refusal};
 use bus::{
@@ -181,6 +181,13 @@ pub(crate) fn behind_u16_slice(request: &[u8], at: usize) -> &[u8]
         return &request[..0];
     }
     &request[end..]
+}
+
+// 4,096 zeros: a request has no more bytes.
+pub(crate) fn buffer() -> [u8; 4096]
+    ensures { 4096 ≡ length result }
+{
+    [0; 4096]
 }
 
 // 2,048 zeros: a request has fewer numbers of two bytes.

@@ -14,7 +14,14 @@ mod part251;
 mod plan;
 mod read_out;
 
-use libc::{STDIN_FILENO, STDOUT_FILENO};
+use std::io;
+use std::io::Read;
+
+// The bytes of a block.
+const BLOCK_LEN: u64 = 65_536;
+
+// Room for the answers that are not written yet.
+const TEXT_LEN: usize = 65_536;
 
 // The answer to one request, put behind the first n bytes of text. The high digit of a function's
 // number is its source file.
@@ -39,54 +46,62 @@ fn answer_line(digits: &[u8], text: &mut [u8], n: usize) -> usize {
     if digits.len() == 0 {
         return n;
     }
-    let mut space = io::buffer();
+    let mut space = line::buffer();
     let len = line::decode(digits, &mut space);
     let end = answer(&space[..len], text, n);
     line::put_newline(text, end)
 }
 
-fn flush(text: &[u8], n: usize) {
+fn flush(rt: &impl Print, text: &[u8], n: usize) -> io::Result<()> {
     if n <= text.len() {
-        io::write_all(STDOUT_FILENO, &text[..n]);
+        rt.write_all(&text[..n])?;
     }
+    Ok(())
 }
 
 // Answers every line of a block.
-fn answer_block(block: &[u8], text: &mut [u8]) {
+fn answer_block(rt: &impl Print, block: &[u8], text: &mut [u8]) -> io::Result<()> {
     let mut n = 0;
     let mut start = 0;
     while start < block.len() {
         let end = line::end(block, start);
         n = answer_line(&block[start..end], text, n);
         if text.len() / 2 < n {
-            flush(text, n);
+            flush(rt, text, n)?;
             n = 0;
         }
         start = end + 1;
     }
-    flush(text, n);
+    flush(rt, text, n)
 }
 
 // Reads a block whole and answers it; false at the end of the input.
-fn answer_some(block: &mut [u8], text: &mut [u8]) -> bool {
-    let got = io::read_full(STDIN_FILENO, block);
-    if got == 0 {
-        return false;
+fn answer_some(
+    rt: &(impl Input + Print),
+    block: &mut Vec<u8>,
+    text: &mut [u8],
+) -> io::Result<bool> {
+    block.clear();
+    rt.reader().take(BLOCK_LEN).read_to_end(block)?;
+    if block.is_empty() {
+        return Ok(false);
     }
-    answer_block(&block[..got], text);
-    true
+    answer_block(rt, block, text)?;
+    Ok(true)
 }
 
-// The loop counts its turns down from a number that no input uses up, since a proved loop has to end.
-fn answer_all(block: &mut [u8], text: &mut [u8]) {
-    let mut turns = u64::MAX;
-    while turns > 0 && answer_some(block, text) {
-        turns -= 1;
+// The loop counts its turns up to a number that no input uses up, since a proved loop has to end.
+fn answer_all(rt: &(impl Input + Print), block: &mut Vec<u8>, text: &mut [u8]) -> io::Result<()> {
+    for _ in 0..u64::MAX {
+        if !answer_some(rt, block, text)? {
+            break;
+        }
     }
+    Ok(())
 }
 
-fn main() {
-    let mut block = io::large_buffer();
-    let mut text = io::large_buffer();
-    answer_all(&mut block, &mut text);
+fn main(rt: HostRuntime) -> io::Result<()> {
+    let mut block = Vec::new(rt.alloc());
+    let mut text = [0; TEXT_LEN];
+    answer_all(&rt, &mut block, &mut text)
 }

@@ -48,13 +48,13 @@ fn put_writes(
 fn answer_writes(request: &[u8], text: &mut [u8], n: usize) -> usize {
     let at = luminaire_write::option_end(request, 1 + NUMBERS_BYTES, 8);
     let outs = line::behind_slice(request, at);
-    let mut fields = io::buffer();
+    let mut fields = line::buffer();
     let fields_len = line::copy(line::slice_at(outs, 0), &mut fields);
     let behind_fields = line::behind_slice(outs, 0);
-    let mut lens = io::buffer();
+    let mut lens = line::buffer();
     let lens_len = line::copy(line::slice_at(behind_fields, 0), &mut lens);
     let behind_lens = line::behind_slice(behind_fields, 0);
-    let mut bytes = io::buffer();
+    let mut bytes = line::buffer();
     let bytes_len = line::copy(line::slice_at(behind_lens, 0), &mut bytes);
     put_writes(
         request,
@@ -130,10 +130,10 @@ fn put_stores(
 fn answer_stores(request: &[u8], text: &mut [u8], n: usize) -> usize {
     let at = plan_end(request, 1);
     let outs = line::behind_slice(request, at);
-    let mut offsets = io::buffer();
+    let mut offsets = line::buffer();
     let offsets_len = line::copy(line::slice_at(outs, 0), &mut offsets);
     let behind_offsets = line::behind_slice(outs, 0);
-    let mut values = io::buffer();
+    let mut values = line::buffer();
     let values_len = line::copy(line::slice_at(behind_offsets, 0), &mut values);
     put_stores(
         plan_at(request, 1),

@@ -40,7 +40,7 @@ fn put_accepted(request: &[u8], buffer: &mut [u8], text: &mut [u8], n: usize) ->
 
 fn accepting(request: &[u8], text: &mut [u8], n: usize) -> usize {
     let buffer = line::slice_at(line::behind_slice(request, 8), 0);
-    let mut space = io::buffer();
+    let mut space = line::buffer();
     let len = line::copy(buffer, &mut space);
     put_accepted(request, &mut space[..len], text, n)
 }
@@ -67,7 +67,7 @@ fn run(request: &[u8], text: &mut [u8], n: usize) -> usize {
     let calls_len = line::copy_u16s(line::u16_slice_at(request, 6), &mut calls);
     let behind_calls = line::behind_u16_slice(request, 6);
     let behind_chunks = line::behind_slice(behind_calls, 0);
-    let mut buffer = io::buffer();
+    let mut buffer = line::buffer();
     let buffer_len = line::copy(line::slice_at(behind_chunks, 0), &mut buffer);
     let behind_buffer = line::behind_slice(behind_chunks, 0);
     let mut answers = line::u16_buffer();

@@ -5,12 +5,19 @@
 mod file;
 mod listing;
 
-use libc::{STDIN_FILENO, STDOUT_FILENO};
+use std::io;
+use std::io::Read;
 
-fn main() {
-    let mut file = io::buffer();
-    let len = io::read_full(STDIN_FILENO, &mut file);
-    let mut text = io::buffer();
-    let n = listing::answer(&file[..len], &mut text);
-    io::write_all(STDOUT_FILENO, &text[..n]);
+// What is read of a file; no good one is longer.
+const FILE_LEN: u64 = 4096;
+
+// Room for what is printed for any file.
+const TEXT_LEN: usize = 4096;
+
+fn main(rt: HostRuntime) -> io::Result<()> {
+    let mut file = Vec::new(rt.alloc());
+    rt.reader().take(FILE_LEN).read_to_end(&mut file)?;
+    let mut text = [0; TEXT_LEN];
+    let n = listing::answer(&file, &mut text);
+    rt.write_all(&text[..n])
 }
