@@ -1,13 +1,8 @@
 -- `stores::file::numbers_in` meets its contract, member by member.
 -- Assumes nothing.
-use native.Mathlib.Omega.{arith}
-use borrow.Author.Rules.{rules}
 use Rattle.bank.specs.Fields.{luminaire_fields}
 use Rattle.stores.specs.File.{numbers_in}
 use Rattle.stores.proofs.file.numbers_in.Goals as goal
-
-pub overflow_cast-result : goal.overflow_cast-result
-overflow_cast-result c = omega (arith, c.number_at.ensures.small)
 
 pub returns : goal.returns
 unfolding numbers_in luminaire_fields

@@ -1,7 +1,6 @@
 -- `stores::file::text_field_in` meets its contract.
 -- Assumes nothing.
 use borrow.Author.Tests.{eq-eqb, ne_eqb}
-use borrow.Author.Rules.{rules}
 use Rattle.stores.proofs.Heads.{field_is}
 use Rattle.stores.proofs.file.text_field_in.Goals as goal
 

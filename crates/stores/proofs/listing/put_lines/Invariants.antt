@@ -1,15 +1,11 @@
 -- `stores::listing::put_lines` meets its contract. The invariant: the lines of the first i stores are laid. The measure is
 -- the number of stores that are left.
 -- Assumes nothing.
-use mathlib.Core.Path.{◌≡◌, refl, sym, ap, ◌∙◌}
-use mathlib.Core.List.{List}
-use Prim.Native.Nat.{ℕ, ◌+◌, ◌-◌, ◌*◌, ◌≤◌}
-use native.Mathlib.Omega.{arith}
-use borrow.Author.Rules.{rules}
+use mathlib.Core.Path.{◌≡◌}
+use Prim.Native.Nat.{◌-◌, ◌≤◌}
 use lib.ListN.{length, take}
-use lib.Seq.{sets, take_all, length-sets}
+use lib.Seq.{sets}
 use Rattle.stores.specs.Steps.{lines}
-use Rattle.stores.proofs.Lines.{lines_length, lines_next}
 use Rattle.stores.proofs.listing.put_lines.Given as goal
 
 abbrev pub invariant-loop-i : goal.invariant-loop-i

@@ -6,8 +6,6 @@ use native.Mathlib.Omega.{arith}
 use lib.Dec.{lit≤}
 use lib.ListN.{length}
 use lib.Seq.{sets, length-take-le}
-use Rattle.stores.specs.Listing.{stores_word}
-use Rattle.stores.proofs.Lines.{decimal_short, counted_length}
 use Rattle.records.proofs.Room.{AcceptedPlan, told_accepted, told_refused, accepted_few, offsets_fit, values_fit}
 use Rattle.stores.proofs.Answers.{refused_text_lem, accepted_laid}
 use Rattle.stores.proofs.listing.put_plan.Goals as goal
@@ -33,16 +31,6 @@ slice_bounds-values-end c = values_fit (accepted (goal.at.slice_bounds-values-en
 
 pub slice_bounds-put_lines-end-in-Ok : goal.slice_bounds-put_lines-end-in-Ok
 slice_bounds-put_lines-end-in-Ok c = sym (length-take-le _ _ (values_fit (accepted (goal.at.slice_bounds-put_lines-end-in-Ok c).In-Ok)))
-
-pub put_lines-requires : goal.put_lines-requires
-put_lines-requires c =
-    let d = accepted (goal.at.put_lines-requires c).In-Ok in
-    let count = c.in-Ok.count in
-    let os = length-take-le count c.stores.new.offsets (offsets_fit d) in
-    let vs = length-take-le count c.stores.new.values (values_fit d) in (
-      omega (arith, c.put_counted-at.ensures.end ∙ counted_length stores_word count, decimal_short count),
-      (omega (arith, os, accepted_few d), vs ∙ sym os),
-    )
 
 pub returns-in-Ok : goal.returns-in-Ok
 returns-in-Ok c =
