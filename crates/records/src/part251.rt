@@ -26,6 +26,7 @@ pub fn text_bytes(bank: &[u8], region: TextRegion) -> &[u8]
 }
 
 // How many bytes stand before the first 00.
+#[tactic(auto, using(crate::proofs::Texts::zero_at, crate::proofs::Texts::next_byte, crate::proofs::Texts::no_byte))]
 pub(crate) fn text_len(raw: &[u8]) -> usize
     ensures { (result ≤ length raw.now) × (take result raw.now ≡ until_zero raw.now) }
 {

@@ -32,11 +32,12 @@ returns-then-number_at-ne-VERSION c =
 pub returns-then-file-text_len : goal.returns-then-file-text_len
 returns-then-file-text_len c =
     let f = c.args.file.now in
+    let other : length f ≡ 31 + c.number_at-text_len.result → ⊥ = λ e. omega arith in
     rw (
       good_is f c.is_marked.ensures c.number_at.ensures.value c.number_at-text_len.ensures.value refl,
       c.if-not-is_marked.false,
       eq-eqb _ _ c.if-number_at-ne-VERSION.false,
-      ne_eqb (length f) (31 + c.number_at-text_len.result) (λ e. c.if-file-text_len.true (omega (arith, e))),
+      ne_eqb (length f) (31 + c.number_at-text_len.result) other,
     )
 
 -- all but the last test passed
