@@ -34,7 +34,7 @@ module _ (chunk : ChunkRule) (rule : Bounded chunk) (r : ReadOut) (budget : ℕ)
       by_test (is_done r)
       (λ t. eqb-true r.next r.length t)
       (λ t.
-      let chunk-told : Chunk (wanted_len chunk r budget) ≡ Done = rw (sound, t) at e in
+      let chunk_told : Chunk (wanted_len chunk r budget) ≡ Done = rw (sound, t) at e in
       let z : ◌≡◌ {A = ℕ} 0 1 = cc in
       let y : ⊥ = omega arith in
       absurd y)

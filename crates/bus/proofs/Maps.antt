@@ -94,8 +94,8 @@ module _ (end : ℕ) where
   none_only_behind o from (x ∷ xs) t k e =
       by_test (ltb o (end_of x))
       (λ l.
-      let starts-here : x.offset ≤ o = omega (arith, here start_of end_of end from x xs t) in
-      no_element (sym (rw (held o x starts-here (ltb-true o (end_of x) l)) at e)))
+      let starts_here : x.offset ≤ o = omega (arith, here start_of end_of end from x xs t) in
+      no_element (sym (rw (held o x starts_here (ltb-true o (end_of x) l)) at e)))
       (λ l.
       let past : end_of x ≤ o = ltb-false o (end_of x) l in
       none_only_behind o (end_of x) xs (later start_of end_of end from x xs t) past (rw (not_held o x past) at e))

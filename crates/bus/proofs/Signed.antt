@@ -18,7 +18,7 @@ below_zero : (n r : ℕ) → n < r → pos n -ℤ pos r ≡ negsuc (r - suc n)
 below_zero n zero h = absurd (not-suc-le-zero h)
 below_zero n (suc m) h = rw (lt-ltb n (suc m) h)
 
-module _ (bits n : ℕ) (some : 1 ≤ bits) (in-range : n < 2 ^ bits) where
+module _ (bits n : ℕ) (some : 1 ≤ bits) (in_range : n < 2 ^ bits) where
   abbrev Range : ℕ
   Range = 2 ^ bits
 
@@ -38,7 +38,7 @@ module _ (bits n : ℕ) (some : 1 ≤ bits) (in-range : n < 2 ^ bits) where
   meaning_low low = rw (lt-ltb n Half low)
 
   meaning_high : Half ≤ n → signed_meaning bits n ≡ negsuc (Range - suc n)
-  meaning_high high = rw (le-ltb n Half high) (below_zero n Range in-range)
+  meaning_high high = rw (le-ltb n Half high) (below_zero n Range in_range)
 
   -- half the range added, the remainder taken, half the range taken away: below half the range the remainder is the sum
   -- itself, from it on what is left of the sum less the range

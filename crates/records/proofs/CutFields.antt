@@ -88,7 +88,7 @@ text_behind f text old h l =
 
 -- ---- an accepted plan
 
-module _ (old : List ℕ) (p : Plan) (text : List ℕ) (is-old : OldBank old) (accepted : Accepted old p text) where
+module _ (old : List ℕ) (p : Plan) (text : List ℕ) (is_old : OldBank old) (accepted : Accepted old p text) where
   sound : first_of (plan_checks p text) ≡ none
   sound = passed_plan p text accepted.offsets accepted.values accepted.accepts
 
@@ -97,11 +97,11 @@ module _ (old : List ℕ) (p : Plan) (text : List ℕ) (is-old : OldBank old) (a
 
   -- the bank's first byte is the layout's last offset
   last_is : (last : ℕ) × ((p.layout.last_offset ≡ OptionU8.Some last) × (length old ≡ last + 1))
-  last_is = go old refl is-old.some_byte
+  last_is = go old refl is_old.some_byte
     where
       go : (l : List ℕ) → old ≡ l → 1 ≤ length l → (last : ℕ) × ((p.layout.last_offset ≡ OptionU8.Some last) × (length old ≡ last + 1))
       go [] e h = absurd (not-suc-le-zero h)
-      go (x ∷ l) e h = (x, (rw (accepted.layout, e), is-old.first_says x (rw e)))
+      go (x ∷ l) e h = (x, (rw (accepted.layout, e), is_old.first_says x (rw e)))
 
   -- a field that may be written is in the bank, and in its format
   record MayWrite (f : LuminaireField) : Type 0 where
@@ -112,11 +112,11 @@ module _ (old : List ℕ) (p : Plan) (text : List ℕ) (is-old : OldBank old) (a
 
   may_write : (i : ℕ) {f : LuminaireField} {bytes : List ℕ} → get_elem? luminaire_fields i ≡ some f → bytes_for f.kind p.numbers p.text_field text i f ≡ some bytes → MayWrite f
   may_write i e b =
-      let in-it = in_format_lem p text sound i e b in
+      let in_it = in_format_lem p text sound i e b in
       record {
-        format = in-it.format;
-        is_format = in-it.is_format;
-        has_field = in-it.has_field;
+        format = in_it.format;
+        is_format = in_it.is_format;
+        has_field = in_it.has_field;
         inside = omega (arith, last_is.1.1, ends_by_lem p text sound i e b last_is.1.0);
       }
 
@@ -237,9 +237,9 @@ module _ (old : List ℕ) (p : Plan) (text : List ℕ) (is-old : OldBank old) (a
       may_text : MayWrite f
       may_text = may_write i e text_bytes_lem
 
-      text_reading : {part-is : List ℕ} → part f.offset f.len (stored (mine i f) old) ≡ part-is → reads 0 cut i ≡ some (a_text (text_in (limit_for t) (some part-is)))
+      text_reading : {part_is : List ℕ} → part f.offset f.len (stored (mine i f) old) ≡ part_is → reads 0 cut i ≡ some (a_text (text_in (limit_for t) (some part_is)))
       unfolding bind
-      text_reading {part-is} h = reads_there i e may_text h ∙ ap (λ (k : FieldKind). some (reading k (some may_text.format) (some part-is))) kind
+      text_reading {part_is} h = reads_there i e may_text h ∙ ap (λ (k : FieldKind). some (reading k (some may_text.format) (some part_is))) kind
 
       -- all its stores made, its place begins with its bytes
       made_whole : (bs : List ℕ) → length bs ≤ f.len → part f.offset f.len (stored (write_stores (written i f bs)) old) ≡ bs ++ drop (length bs) (part f.offset f.len old)
@@ -280,9 +280,9 @@ module _ (old : List ℕ) (p : Plan) (text : List ℕ) (is-old : OldBank old) (a
       text_whole : mine i f ≡ own i f → reads 0 cut i ≡ wanted p text i
       unfolding bytes
       text_whole all =
-          let few-and-plain = second_true (is_text_kind f.kind) (leb (length text) f.len && printable text) (accepted_text p text sound i e w) in
-          let few = leb-true (length text) f.len (first_true (leb (length text) f.len) (printable text) few-and-plain) in
-          let plain = second_true (leb (length text) f.len) (printable text) few-and-plain in
+          let few_and_plain = second_true (is_text_kind f.kind) (leb (length text) f.len && printable text) (accepted_text p text sound i e w) in
+          let few = leb-true (length text) f.len (first_true (leb (length text) f.len) (printable text) few_and_plain) in
+          let plain = second_true (leb (length text) f.len) (printable text) few_and_plain in
           let limit : f.len ≤ limit_of (limit_for t) = leb-true f.len (limit_of (limit_for t)) (ap (λ (k : FieldKind). fits_limit k f.len) (sym kind) ∙ table_fits i e) in
           let ends = text_behind f text (part f.offset f.len old) few (length_part f.offset f.len old may_text.inside) in
           text_reading (ap (λ (ss : List Store). part f.offset f.len (stored ss old)) (all ∙ text_stores) ∙ made_whole bytes short ∙ ends.1.0)
@@ -450,17 +450,17 @@ no_209 LampCurrent v n t = refl
 
 pub every_wanted_number_shown : EveryWantedNumberShown
 unfolding bind
-every_wanted_number_shown old p text is-old accepted i f patch r value e kind w =
-    number_wanted old p text is-old accepted 0 i e patch r kind value w
+every_wanted_number_shown old p text is_old accepted i f patch r value e kind w =
+    number_wanted old p text is_old accepted 0 i e patch r kind value w
     ∙ ap (λ (o : Option LuminaireFormat). some (a_number (number_read r o (some (low_bytes f.len value))))) may.is_format
     ∙ ap (λ (n : ℕ). some (a_number (OptionLuminaireValue.Some (value_in r may.format n)))) (number_low_bytes f.len value ∙ mod-eq_of_lt small)
     ∙ (rw (shown, no_209 r may.format value shown))
   where
-    may : MayWrite old p text is-old accepted f
-    may = may_number old p text is-old accepted 0 i e patch r kind value w
+    may : MayWrite old p text is_old accepted f
+    may = may_number old p text is_old accepted 0 i e patch r kind value w
 
     takes : accepts_number f may.format value ≡ true
-    takes = accepted_number p text (sound old p text is-old accepted) i e kind w may.is_format
+    takes = accepted_number p text (sound old p text is_old accepted) i e kind w may.is_format
 
     shown : shows r may.format value ≡ true
     shown = ap (λ (k : FieldKind). shown_by k may.format value) (sym kind) ∙ first_true (shown_by f.kind may.format value) (fits f.len value) takes

@@ -97,8 +97,8 @@ number_there {start} {bytes} {o} {n} t h e = ap (map number) t.is ∙ ap some (s
 -- a part of a part
 part_of_part : (m k n : ℕ) (xs : List ℕ) → k + n ≤ m → take n (drop k (take m xs)) ≡ take n (drop k xs)
 part_of_part zero k n xs h =
-    let none-taken : n ≡ 0 = omega arith in
-    rw none-taken
+    let none_taken : n ≡ 0 = omega arith in
+    rw none_taken
 part_of_part (suc m) k n [] h = refl
 part_of_part (suc m) zero n (x ∷ xs) h = take-take n (suc m) (x ∷ xs) (omega arith)
 part_of_part (suc m) (suc k) n (x ∷ xs) h = part_of_part m k n xs (omega arith)

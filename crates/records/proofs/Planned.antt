@@ -41,12 +41,12 @@ Further fs ls bs n ws fs' ls' bs' n' =
 module _ {fs ls bs fs' ls' bs' fs'' ls'' bs'' : List ℕ} {n n' : WriteCounts} where
   further : {ws : List Write} (vs : List Write) → Planned fs ls bs ws fs' ls' bs' n → Further fs' ls' bs' n vs fs'' ls'' bs'' n' → Planned fs ls bs (ws ++ vs) fs'' ls'' bs'' n'
   further {ws} vs a b =
-      let at-writes : n.writes ≡ 0 + length ws = a.writes ∙ sym (zero-add (length ws)) in
+      let at_writes : n.writes ≡ 0 + length ws = a.writes ∙ sym (zero-add (length ws)) in
       record {
         writes = ap (λ (c : WriteCounts). c.writes) b.0 ∙ rw (a.writes, length-append ws vs);
         count = ap (λ (c : WriteCounts). c.bytes) b.0 ∙ rw (a.count, flat_append (λ (w : Write). w.bytes) ws vs, length-append (all_bytes ws) (all_bytes vs));
-        fields = members_behind fs 0 (λ (w : Write). w.index) ws vs at-writes a.fields b.1.0;
-        lens = members_behind ls 0 (λ (w : Write). length w.bytes) ws vs at-writes a.lens b.1.1.0;
+        fields = members_behind fs 0 (λ (w : Write). w.index) ws vs at_writes a.fields b.1.0;
+        lens = members_behind ls 0 (λ (w : Write). length w.bytes) ws vs at_writes a.lens b.1.1.0;
         bytes = rw (flat_append (λ (w : Write). w.bytes) ws vs) (laid_behind bs 0 (all_bytes ws) (all_bytes vs) (a.count ∙ sym (zero-add (length (all_bytes ws)))) a.bytes b.1.1.1);
       }
 

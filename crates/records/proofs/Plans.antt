@@ -137,8 +137,8 @@ plan_taken_exactly p text os vs =
       offsets_stay = λ {r} e. (left p text os vs e).0;
       values_stay = λ {r} e. (left p text os vs e).1;
       no_field = λ a b.
-          let none-there = no_stores p text a b in
-          sym (answered (record { allowed = no_checks p text a b; offsets_room = rw none-there (omega arith); values_room = rw none-there (omega arith) })).0 ∙ ap (λ (l : List Store). Ok (length l)) none-there;
+          let none_there = no_stores p text a b in
+          sym (answered (record { allowed = no_checks p text a b; offsets_room = rw none_there (omega arith); values_room = rw none_there (omega arith) })).0 ∙ ap (λ (l : List Store). Ok (length l)) none_there;
     }
   where
     answered : Acceptable p text os vs → Answered p text os vs (Ok (length (stores_of p text))) (laid_into (offsets_of (stores_of p text)) os) (laid_into (values_of (stores_of p text)) vs)

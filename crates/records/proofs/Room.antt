@@ -71,7 +71,7 @@ pub record AcceptedPlan (p : Plan) (text : List ℕ) (n : ℕ) (os vs : List ℕ
   pub offsets : take n os ≡ offsets_of (stores_of p text)
   pub values : take n vs ≡ values_of (stores_of p text)
 
-module _ (p : Plan) (text os vs : List ℕ) (room-os : 203 ≤ length os) (room-vs : 203 ≤ length vs) where
+module _ (p : Plan) (text os vs : List ℕ) (room_os : 203 ≤ length os) (room_vs : 203 ≤ length vs) where
   few : length (stores_of p text) ≤ 203
   few = stores_bound p.numbers p.text_field text
 
@@ -83,13 +83,13 @@ module _ (p : Plan) (text os vs : List ℕ) (room-os : 203 ≤ length os) (room-
       go (some r) s = no_element (ap count_in ((plan_refused p text os vs s).0 ∙ sym a ∙ t))
       go none s =
           let ss = stores_of p text in
-          let done = plan_accepted p text os vs s (omega (arith, few, room-os)) (omega (arith, few, room-vs)) refl refl refl in
+          let done = plan_accepted p text os vs s (omega (arith, few, room_os)) (omega (arith, few, room_vs)) refl refl refl in
           let same : n ≡ length ss = some_same (ap count_in (sym t ∙ a ∙ sym done.0)) in
           record {
             sound = s;
             count = same;
-            offsets = ap (take n) (b ∙ sym done.1.0) ∙ front_is (offsets_of ss) os (offsets_count ss ∙ sym same) (omega (arith, same, few, room-os));
-            values = ap (take n) (d ∙ sym done.1.1) ∙ front_is (values_of ss) vs (values_count ss ∙ sym same) (omega (arith, same, few, room-vs));
+            offsets = ap (take n) (b ∙ sym done.1.0) ∙ front_is (offsets_of ss) os (offsets_count ss ∙ sym same) (omega (arith, same, few, room_os));
+            values = ap (take n) (d ∙ sym done.1.1) ∙ front_is (values_of ss) vs (values_count ss ∙ sym same) (omega (arith, same, few, room_vs));
           }
 
   pub told_refused : {e : ResultUsize} {r : Refusal} → e ≡ planned p text os vs → e ≡ Err r → first_of (plan_checks p text) ≡ some r
@@ -98,7 +98,7 @@ module _ (p : Plan) (text os vs : List ℕ) (room-os : 203 ≤ length os) (room-
       go : (o : Option Refusal) → first_of (plan_checks p text) ≡ o → first_of (plan_checks p text) ≡ some r
       go (some q) s = s ∙ ap refusal_in ((plan_refused p text os vs s).0 ∙ sym a ∙ t)
       go none s =
-          let done = plan_accepted p text os vs s (omega (arith, few, room-os)) (omega (arith, few, room-vs)) refl refl refl in
+          let done = plan_accepted p text os vs s (omega (arith, few, room_os)) (omega (arith, few, room_vs)) refl refl refl in
           no_element (ap refusal_in (done.0 ∙ sym a ∙ t))
 
 -- how far the slices go

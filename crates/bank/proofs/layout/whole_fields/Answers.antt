@@ -9,7 +9,6 @@ use Rattle.bus.specs.declared.ValueWidth.TheVariants.{U8}
 use Rattle.bus.specs.declared.layout.BankField.{BankField}
 use Rattle.bus.specs.declared.layout.FieldMap.{FieldMap}
 use Rattle.bus.specs.Maps.{entries}
-use Rattle.bus.proofs.Width.{sized}
 use Rattle.bus.proofs.Lists.{rest, no_rest}
 use Rattle.bank.specs.Chunk.{fields_from, with_further}
 use Rattle.bank.proofs.Chunk.{from_here, from_next, from_end, further_fits, further_stops, further_end, chunk_smaller, chunk_whole, chunk_end}
@@ -51,9 +50,6 @@ returns-then-map-i c =
     let at = goal.at.returns-then-map-i c in
     sym (chunk_end (sym (found at.Left-loop-i (room at.Start)) ∙ none_left a.map (room at.Start) c.loop-i.i c.if-map-i.true) a.remaining a.limit)
 
-pub overflow_cast-taken : goal.overflow_cast-taken
-overflow_cast-taken c = omega (arith, c.bytes-taken.ensures, sized (field_at c.args.map c.loop-i.i).width)
-
 pub returns-then-remaining-taken : goal.returns-then-remaining-taken
 returns-then-remaining-taken c =
     let a = c.args in
@@ -66,9 +62,6 @@ loop-i-2-init c =
     let at = goal.at.loop-i-2-init c in
     ap (λ (n : ℕ). with_further a.limit n (drop (c.loop-i.i + 1) (entries a.map))) c.bytes-taken.ensures
     ∙ sym (chunk_whole (first at.Left-loop-i (room at.Start) c.if-map-i.false) a.remaining a.limit (omega (arith, c.bytes-taken.ensures)))
-
-pub overflow_cast-bytes : goal.overflow_cast-bytes
-overflow_cast-bytes c = omega (arith, c.bytes-bytes.ensures, sized (field_at c.args.map c.loop-i-2.i).width)
 
 pub returns-then-limit-bytes : goal.returns-then-limit-bytes
 returns-then-limit-bytes c =

@@ -1,6 +1,5 @@
 -- `bank::luminaire_write::check_writable` meets its contract, check by check.
 -- Assumes nothing.
--- places that are gone back to
 use mathlib.Core.Path.{◌≡◌, sym, ◌∙◌}
 use mathlib.Core.Bool.{false, not, cond}
 use mathlib.Core.Option.{none, some}
@@ -49,8 +48,8 @@ returns-in_default c =
 pub returns-in_default-format : goal.returns-in_default-format
 unfolding first_of check_writable
 returns-in_default-format c =
-    let none-there = told_format (format_in c.args.layout.content_format_id) c.format.ensures c.in_default-format.is in
-    rw (writable (goal.at.returns-in_default-format c).Else-is_layout_id, there (goal.at.returns-in_default-format c).Else-is_missing, c.in-Some.is, none-there)
+    let none_there = told_format (format_in c.args.layout.content_format_id) c.format.ensures c.in_default-format.is in
+    rw (writable (goal.at.returns-in_default-format c).Else-is_layout_id, there (goal.at.returns-in_default-format c).Else-is_missing, c.in-Some.is, none_there)
 
 pub returns-then-not-in_format : goal.returns-then-not-in_format
 unfolding check_writable

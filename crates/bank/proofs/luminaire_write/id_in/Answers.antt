@@ -2,7 +2,7 @@
 -- Assumes nothing.
 use mathlib.Core.Path.{ap, sym, ◌∙◌}
 use native.Mathlib.Omega.{arith}
-use Rattle.bus.proofs.Number.{number_part, part_below}
+use Rattle.bus.proofs.Number.{number_part}
 use Rattle.bank.specs.declared.OptionU16.{OptionU16}
 use Rattle.bank.specs.Options.{option_u16}
 use Rattle.bank.proofs.Header.{no_id, id}
@@ -10,9 +10,6 @@ use Rattle.bank.proofs.luminaire_write.id_in.Goals as goal
 
 pub returns-then-header-at : goal.returns-then-header-at
 returns-then-header-at c = ap option_u16 (sym (no_id c.args.header.now (omega arith)))
-
-pub overflow_cast-result : goal.overflow_cast-result
-overflow_cast-result c = omega (arith, part_below c.args.header.now 17 2 c.number_of.ensures.below)
 
 pub returns : goal.returns
 returns c =

@@ -1,17 +1,14 @@
--- `bank::read_out::copy_in` meets its contract. The invariant: the first i bytes of `src` are copied. The measure is what
+-- `bank::read_out::copy_in` meets its contract, by its invariant.
 -- Assumes nothing.
-use mathlib.Core.Path.{refl, sym, ap, ◌∙◌}
+use mathlib.Core.Path.{sym, ap, ◌∙◌}
 use mathlib.Core.List.{List}
-use Prim.Native.Nat.{ℕ, ◌+◌, zero-le}
+use Prim.Native.Nat.{ℕ, ◌+◌}
 use native.Mathlib.Numerals.{add-one}
 use native.Mathlib.Omega.{arith}
 use lib.ListN.{get_or, set, length-set}
-use lib.Seq.{paste, paste-zero, paste-suc}
+use lib.Seq.{paste, paste-suc}
 use Rattle.bank.proofs.Reading.{paste_all}
 use Rattle.bank.proofs.read_out.copy_in.Goals as goal
-
-pub loop-i-init : goal.loop-i-init
-loop-i-init c = (paste-zero c.args.dst.now c.args.at c.args.src.now, zero-le, refl)
 
 pub loop-i-preserved : goal.loop-i-preserved
 loop-i-preserved c =

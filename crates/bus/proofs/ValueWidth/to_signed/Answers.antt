@@ -57,18 +57,6 @@ module _ (c : After-power_of_two-range) where
       rw (to_z_pos w64 (remainder_small (Raw % Range + Half)), to_z_pos w64 half_small)
       (ap (λ (r : ℕ). pos ((Raw % r + r / 2) % r) -ℤ pos (r / 2)) range_is ∙ sign_without_branch (bits_of Width) Raw some_bits)
 
-pub overflow_mul-bytes : goal.overflow_mul-bytes
-overflow_mul-bytes c = omega (arith, sized c.args.self)
-
-pub power_of_two-range-requires : goal.power_of_two-range-requires
-power_of_two-range-requires c = omega (arith, sized c.args.self)
-
-pub overflow_add-result : goal.overflow_add-result
-overflow_add-result c = omega (arith, remainder_small (goal.at.overflow_add-result c).After-power_of_two-range (Raw (goal.at.overflow_add-result c).After-power_of_two-range), half_small (goal.at.overflow_add-result c).After-power_of_two-range)
-
-pub overflow_cast-result : goal.overflow_cast-result
-overflow_cast-result c = record { sfits = remainder_small (goal.at.overflow_cast-result c).After-power_of_two-range _ }
-
 pub overflow_sub-result : goal.overflow_sub-result
 overflow_sub-result c =
     let at = (goal.at.overflow_sub-result c).After-power_of_two-range in

@@ -31,7 +31,7 @@ returns-in-207 c = rw c.in-207.is
 
 pub returns-in_default : goal.returns-in_default
 returns-in_default c =
-    let not-205 : c.args.bank ≡ 205 → ⊥ = λ e. omega arith in
-    let not-206 : c.args.bank ≡ 206 → ⊥ = λ e. omega arith in
-    let not-207 : c.args.bank ≡ 207 → ⊥ = λ e. omega arith in
-    energy_bank_lem _ c.if-bank-lt-BANK_ACTIVE_ENERGY.false c.if-bank-gt-BANK_LUMINAIRE_MAINTENANCE.false not-205 not-206 not-207
+    let not_205 : c.args.bank ≡ 205 → ⊥ = λ e. omega arith in
+    let not_206 : c.args.bank ≡ 206 → ⊥ = λ e. omega arith in
+    let not_207 : c.args.bank ≡ 207 → ⊥ = λ e. omega arith in
+    energy_bank_lem _ c.if-bank-lt-BANK_ACTIVE_ENERGY.false c.if-bank-gt-BANK_LUMINAIRE_MAINTENANCE.false not_205 not_206 not_207

@@ -1,13 +1,10 @@
--- `records::identity::is_mask` meets its contract. The invariant: the bytes from i on are all FF exactly if all are.
+-- `records::identity::is_mask` meets its contract, by its invariant.
 -- Assumes nothing.
-use mathlib.Core.Path.{refl, sym, ◌∙◌}
+use mathlib.Core.Path.{sym, ◌∙◌}
 use native.Mathlib.Omega.{arith}
 use borrow.Author.Tests.{ne_eqb, eq-eqb}
 use Rattle.records.proofs.Places.{not_ff, next_ff, end_ff}
 use Rattle.records.proofs.identity.is_mask.Goals as goal
-
-pub loop-i-init : goal.loop-i-init
-loop-i-init c = refl
 
 pub returns-then-bytes-i : goal.returns-then-bytes-i
 returns-then-bytes-i c =

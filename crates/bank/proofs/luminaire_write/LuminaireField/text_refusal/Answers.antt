@@ -1,6 +1,5 @@
 -- `bank::luminaire_write::LuminaireField::text_refusal` meets its contract, check by check.
 -- Assumes nothing.
--- 8 does not apply
 use mathlib.Core.Path.{◌≡◌, sym, ap, ◌∙◌}
 use mathlib.Core.Bool.{true}
 use mathlib.Core.Option.{Option}
@@ -15,6 +14,7 @@ use Rattle.bank.proofs.TextChecks.{letters_left}
 use Rattle.bank.proofs.luminaire_write.LuminaireField.text_refusal.Goals as goal
 use Rattle.bank.proofs.luminaire_write.LuminaireField.text_refusal.Goals.{Else-not-is_text, Else-self-text}
 
+-- 8 does not apply
 text_field : (c : Else-not-is_text) → is_text_kind c.args.self.kind ≡ true
 text_field c = sym c.is_text.ensures ∙ c.if-not-is_text.false
 

@@ -1,7 +1,6 @@
 -- `bank::read_out::ReadOut::accepting` meets its contract: a refusal leaves the buffer, and an accepted chunk is laid in at
 -- the next offset.
 -- Assumes nothing.
--- places that are gone back to
 use mathlib.Core.Path.{◌≡◌, sym, ap, ◌∙◌}
 use mathlib.Core.Option.{none}
 use Prim.Native.Nat.{ℕ, ◌+◌, ◌-◌, ◌≤◌}

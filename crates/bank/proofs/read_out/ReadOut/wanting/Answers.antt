@@ -1,6 +1,5 @@
 -- `bank::read_out::ReadOut::wanting` meets its contract, by the refusal that was found.
 -- Assumes nothing.
--- the read-out and the budget are not refused
 use mathlib.Core.Path.{◌≡◌, sym, ap, ◌∙◌}
 use mathlib.Core.Option.{none}
 use Rattle.bank.specs.declared.read_out.Wanted.TheVariants.{Chunk}
@@ -11,6 +10,7 @@ use Rattle.bank.proofs.Reading.{valid}
 use Rattle.bank.proofs.read_out.ReadOut.wanting.Goals as goal
 use Rattle.bank.proofs.read_out.ReadOut.wanting.Goals.{In-None}
 
+-- the read-out and the budget are not refused
 sound : (c : In-None) → (let a = c.args in first_of (want_checks a.self a.budget) ≡ none)
 sound c = told_refusal _ c.refusal.ensures c.in-None.is
 

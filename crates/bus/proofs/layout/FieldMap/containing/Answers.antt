@@ -1,6 +1,6 @@
--- `bus::layout::FieldMap::containing` meets its contract. The invariant: the search from field i on finds what the search
+-- `bus::layout::FieldMap::containing` meets its contract, by its invariant.
 -- Assumes nothing.
-use mathlib.Core.Path.{refl, sym, ap, ◌∙◌}
+use mathlib.Core.Path.{sym, ap, ◌∙◌}
 use Prim.Native.Nat.{◌≤◌}
 use native.Mathlib.Omega.{arith}
 use lib.ListN.{length}
@@ -12,12 +12,6 @@ use Rattle.bus.proofs.layout.FieldMap.containing.Goals.{At-loop-i}
 
 fits : (c : At-loop-i) → c.args.self.len ≤ length c.args.self.fields
 fits c = omega (arith, c.well_formed.0.1.1.1.0.1.0.1)
-
-pub loop-i-init : goal.loop-i-init
-loop-i-init c = refl
-
-pub bounds-self-i : goal.bounds-self-i
-bounds-self-i c = omega (arith, c.requires)
 
 pub returns-then-holds : goal.returns-then-holds
 returns-then-holds c =

@@ -21,7 +21,7 @@ returns-in-5 c = rw c.in-5.is
 pub returns-in_default : goal.returns-in_default
 unfolding format_of first_with
 returns-in_default c =
-    let not-3 : c.args.id ≡ 3 → ⊥ = λ e. omega arith in
-    let not-4 : c.args.id ≡ 4 → ⊥ = λ e. omega arith in
-    let not-5 : c.args.id ≡ 5 → ⊥ = λ e. omega arith in
-    rw (ne_eqb _ 3 not-3, ne_eqb _ 4 not-4, ne_eqb _ 5 not-5)
+    let not_3 : c.args.id ≡ 3 → ⊥ = λ e. omega arith in
+    let not_4 : c.args.id ≡ 4 → ⊥ = λ e. omega arith in
+    let not_5 : c.args.id ≡ 5 → ⊥ = λ e. omega arith in
+    rw (ne_eqb _ 3 not_3, ne_eqb _ 4 not_4, ne_eqb _ 5 not_5)

@@ -6,13 +6,6 @@ use Rattle.bank.proofs.Options.{told_field}
 use Rattle.records.proofs.Table.{within_bank}
 use Rattle.records.proofs.luminaire_write.FieldWrite.stage.Goals as goal
 
-pub returns-in_default : goal.returns-in_default
-returns-in_default c = rw (told_field (get_elem? luminaire_fields c.args.self.field) c.of_index.ensures c.in_default.is)
-
 pub stage_of-requires : goal.stage_of-requires
 stage_of-requires c =
     within_bank c.args.self.field (told_field (get_elem? luminaire_fields c.args.self.field) c.of_index.ensures c.in-Some.is)
-
-pub returns : goal.returns
-returns c =
-    rw (told_field (get_elem? luminaire_fields c.args.self.field) c.of_index.ensures c.in-Some.is) c.stage_of.ensures

@@ -5,11 +5,6 @@ use Rattle.bank.proofs.Options.{told_u32}
 use Rattle.records.specs.Writes.{wanted_number}
 use Rattle.records.proofs.luminaire_write.Plan.wanted_refusal.Goals as goal
 
-pub returns-in-Some : goal.returns-in-Some
-returns-in-Some c =
-    let a = c.args in
-    rw (told_u32 (wanted_number a.self.numbers a.field.kind) c.of_field.ensures c.in-Some.is) c.number_refusal.ensures
-
 pub returns-in-None : goal.returns-in-None
 unfolding first_of
 returns-in-None c =
