@@ -28,6 +28,7 @@ pub enum OptionLuminaireFormat {
 }
 
 impl LuminaireFormat {
+    #[tactic(auto, unfolding(crate::specs::Part251::format_of, crate::specs::Maps::first_with))]
     pub fn from_content_format_id(id: u16) -> OptionLuminaireFormat
         ensures { result ≡ option_luminaire_format (format_of id) }
     {

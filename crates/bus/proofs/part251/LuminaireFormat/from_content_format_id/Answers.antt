@@ -1,22 +1,10 @@
--- `bus::part251::LuminaireFormat::from_content_format_id` meets its contract, id by id.
+-- `bus::part251::LuminaireFormat::from_content_format_id` meets its contract: another id has no format.
 -- Assumes nothing.
 use Rattle.std.proofs.Common.{◌≡◌, arith}
 use borrow.Author.Tests.{ne_eqb}
 use Rattle.bus.specs.Maps.{first_with}
 use Rattle.bus.specs.Part251.{format_of}
 use Rattle.bus.proofs.part251.LuminaireFormat.from_content_format_id.Goals as goal
-
-pub returns-in-3 : goal.returns-in-3
-unfolding format_of first_with
-returns-in-3 c = rw c.in-3.is
-
-pub returns-in-4 : goal.returns-in-4
-unfolding format_of first_with
-returns-in-4 c = rw c.in-4.is
-
-pub returns-in-5 : goal.returns-in-5
-unfolding format_of first_with
-returns-in-5 c = rw c.in-5.is
 
 pub returns-in_default : goal.returns-in_default
 unfolding format_of first_with
