@@ -9,6 +9,7 @@ use borrow.Author.Tests.{lt-ltb, le-ltb, ltb-true, ltb-false}
 use lib.Dec.{ltb}
 use lib.IntN.{pos, negsuc, ◌-ℤ◌, +ℤ-neg_ℤ_cancel}
 use lib.Pow.{pow-add, pow_pos}
+use lib.Signed.{mag}
 use Rattle.bus.specs.Width.{signed_meaning, SignWithoutBranch}
 use Rattle.bus.specs.SignedCases.{SignedCasesHold}
 use Rattle.bus.proofs.Tests.{by_test}
@@ -39,6 +40,10 @@ module _ (bits n : ℕ) (some : 1 ≤ bits) (in_range : n < 2 ^ bits) where
 
   meaning_high : Half ≤ n → signed_meaning bits n ≡ negsuc (Range - suc n)
   meaning_high high = rw (le-ltb n Half high) (below_zero n Range in_range)
+
+  -- the meaning of a number of so many bits fits a signed number of as many
+  pub meaning_fits : mag (signed_meaning bits n) < Half
+  meaning_fits = by_half (λ low. rw (meaning_low low) low) (λ high. rw (meaning_high high) (omega (arith, halves)))
 
   -- half the range added, the remainder taken, half the range taken away: below half the range the remainder is the sum
   -- itself, from it on what is left of the sum less the range

@@ -79,17 +79,17 @@ module _ (chunk : ChunkRule) (rule : Bounded chunk) (bank buffer : List ℕ) whe
 -- ---- the claim
 
 pub every_rule_reads_back : EveryRuleReadsBack
-every_rule_reads_back chunk rule old p text k bank buffer calls is-old accepted is held =
+every_rule_reads_back chunk rule old p text k bank buffer calls is_old accepted is held =
     record {
-      starts = started (length bank) (omega (arith, is-old.few, ap length is ∙ length_cut old p text is-old accepted k));
+      starts = started (length bank) (omega (arith, is_old.few, ap length is ∙ length_cut old p text is_old accepted k));
       each_call = λ before c rest e. answered chunk rule bank buffer calls before c rest e;
       buffer_is = buffer_holds chunk rule bank buffer calls held;
       ends = at_end chunk rule bank buffer calls held;
-      outside = λ done j out. ap (λ (l : List ℕ). get_elem? l j) (now done) ∙ cut_outside old p text is-old accepted k j out;
-      whole = λ done i m. ap (λ (l : List ℕ). reads 0 l i) (now done) ∙ cut_whole old p text is-old accepted k i m;
-      only_one = λ done i j a b. one_begun old p text is-old accepted k i j a b;
-      in_between = λ done i m. ap (λ (l : List ℕ). reads 0 l i) (now done) ∙ cut_begun old p text is-old accepted k i m;
-      others = λ done i a b. ap (λ (l : List ℕ). reads 0 l i) (now done) ∙ cut_others old p text is-old accepted k i a b;
+      outside = λ done j out. ap (λ (l : List ℕ). get_elem? l j) (now done) ∙ cut_outside old p text is_old accepted k j out;
+      whole = λ done i m. ap (λ (l : List ℕ). reads 0 l i) (now done) ∙ cut_whole old p text is_old accepted k i m;
+      only_one = λ done i j a b. one_begun old p text is_old accepted k i j a b;
+      in_between = λ done i m. ap (λ (l : List ℕ). reads 0 l i) (now done) ∙ cut_begun old p text is_old accepted k i m;
+      others = λ done i a b. ap (λ (l : List ℕ). reads 0 l i) (now done) ∙ cut_others old p text is_old accepted k i a b;
     }
   where
     now : Done chunk bank buffer calls → now_of chunk bank buffer calls ≡ cut_bank (stores_of p text) k old

@@ -314,9 +314,9 @@ module _ (old : List ℕ) (p : Plan) (text : List ℕ) (is_old : OldBank old) (a
     wants i {f} e = by_kind f.kind refl
       where
         not_wanted : (k : FieldKind) → f.kind ≡ k → bytes_for k p.numbers p.text_field text i f ≡ none → wanted_of p text i f k ≡ none → Wants i f
-        not_wanted k is no_bytes no-reading =
+        not_wanted k is no_bytes no_reading =
             nothing (stores_of_none p.numbers p.text_field text i f (ap (λ (k : FieldKind). bytes_for k p.numbers p.text_field text i f) is ∙ no_bytes))
-            ((rw e) ∙ ap (wanted_of p text i f) is ∙ no-reading)
+            ((rw e) ∙ ap (wanted_of p text i f) is ∙ no_reading)
 
         by_kind : (k : FieldKind) → f.kind ≡ k → Wants i f
         by_kind LayoutId is = not_wanted LayoutId is refl refl
@@ -374,7 +374,7 @@ module _ (old : List ℕ) (p : Plan) (text : List ℕ) (is_old : OldBank old) (a
             reads_begun i e (rw e at m.takes_one) (rw e at m.not_all) ∙ ap (λ (ss : List Store). begun p text old (length ss) i) (sym taken)
 
     pub cut_others : (i : ℕ) → (AllMade p text k i → ⊥) → (Begun p text k i → ⊥) → reads 0 cut i ≡ reads 0 old i
-    cut_others i not-whole not-begun = go (get_elem? luminaire_fields i) refl
+    cut_others i not_whole not_begun = go (get_elem? luminaire_fields i) refl
       where
         no_elements : (ss : List Store) → length ss ≤ 0 → ss ≡ []
         no_elements [] h = refl
@@ -387,11 +387,11 @@ module _ (old : List ℕ) (p : Plan) (text : List ℕ) (is_old : OldBank old) (a
             (λ t.
             let one = ltb-true 0 (length (mine i f)) t in
             by_test (ltb (length (mine i f)) (length (own i f)))
-            (λ u. absurd (not-begun (record { takes_one = rw e one; not_all = rw e (ltb-true (length (mine i f)) (length (own i f)) u) })))
+            (λ u. absurd (not_begun (record { takes_one = rw e one; not_all = rw e (ltb-true (length (mine i f)) (length (own i f)) u) })))
             (λ u.
             let all = ltb-false (length (mine i f)) (length (own i f)) u in
             let n = length-take (k - before p text i) (own i f) in
-            absurd (not-whole (record { is_planned = is_wanted i e (omega arith); all = rw e (take_all (k - before p text i) (own i f) (omega arith)) }))))
+            absurd (not_whole (record { is_planned = is_wanted i e (omega arith); all = rw e (take_all (k - before p text i) (own i f) (omega arith)) }))))
             (λ t. unchanged i e (no_elements (mine i f) (ltb-false 0 (length (mine i f)) t)))
 
     -- the stores of two fields are not both begun and not all made

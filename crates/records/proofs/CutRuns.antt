@@ -140,7 +140,7 @@ module _ (s : State) (calls : List Call) where
 
 pub every_run_reads_back : EveryRunReadsBack
 unfolding first_of run_checks
-every_run_reads_back numbers which text old k buffer calls is-old accepted held =
+every_run_reads_back numbers which text old k buffer calls is_old accepted held =
     let start = begin (cut_of numbers which text old k) buffer in
     record {
       runs = rw sound;
@@ -155,11 +155,11 @@ every_run_reads_back numbers which text old k buffer calls is-old accepted held 
     }
   where
     claimed : CutReadsBack chunk_len old (plan_for numbers which text old) text k (cut_of numbers which text old k) buffer calls
-    claimed = cut_plan_reads_back old (plan_for numbers which text old) text k (cut_of numbers which text old k) buffer calls is-old accepted refl held
+    claimed = cut_plan_reads_back old (plan_for numbers which text old) text k (cut_of numbers which text old k) buffer calls is_old accepted refl held
 
     sound : first_of (run_checks numbers which text old) ≡ none
     sound =
-        rw (le-ltb 256 (length old) is-old.few, le-ltb (length old) 0 (omega arith))
+        rw (le-ltb 256 (length old) is_old.few, le-ltb (length old) 0 (omega arith))
         (passed_plan (plan_for numbers which text old) text accepted.offsets accepted.values accepted.accepts)
 
 pub every_refused_run_leaves_all : EveryRefusedRunLeavesAll

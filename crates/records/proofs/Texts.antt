@@ -216,24 +216,24 @@ module _ {raw out₀ out : List ℕ} {len i : ℕ} (l : Laid raw out₀ out len 
   some_taken = rw (ap (λ (q : Pushed). q.taken) told) (omega arith)
 
   pub laid_on : (r.len ≡ 0 → ⊥) → Laid raw out₀ (put_mid len (length out - len) out after) (len + r.len) (i + r.taken)
-  laid_on some-pushed =
+  laid_on some_pushed =
       by_test (leb (length (piece (drop i raw))) (length (drop len out)))
       (λ t.
       let taken : r.taken ≡ max 1 (sequence_len (drop i raw)) = ap (λ (q : Pushed). q.taken) told in
       rw (put, its_len t, taken) (one_more l more (leb-true (length (piece (drop i raw))) (length (drop len out)) t)))
-      (λ t. absurd (some-pushed (its_len t)))
+      (λ t. absurd (some_pushed (its_len t)))
 
   pub unchanged : r.len ≡ 0 → (length (drop len out) < length (piece (drop i raw))) × (put_mid len (length out - len) out after ≡ out)
-  unchanged none-pushed =
+  unchanged none_pushed =
       by_test (leb (length (piece (drop i raw))) (length (drop len out)))
       (λ t.
-      let z : ⊥ = omega (arith, none-pushed, its_len t, piece_some (drop i raw) (some_left l more)) in
+      let z : ⊥ = omega (arith, none_pushed, its_len t, piece_some (drop i raw) (some_left l more)) in
       absurd z)
       (λ t. (leb-false (length (piece (drop i raw))) (length (drop len out)) t, put ∙ rw t (take-append-drop len out)))
 
   pub stopped : r.len ≡ 0 → (len ≡ length (escaped (length out₀) raw)) × (put_mid len (length out - len) out after ≡ laid_into (escaped (length out₀) raw) out₀)
-  stopped none-pushed =
-      let as_before = unchanged none-pushed in
+  stopped none_pushed =
+      let as_before = unchanged none_pushed in
       let all = all_laid l (no_room l more as_before.0) in
       (all.0, as_before.1 ∙ all.1)
 

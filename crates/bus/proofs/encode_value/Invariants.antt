@@ -9,7 +9,9 @@ use Rattle.bus.specs.Number.{low_bytes}
 use Rattle.bus.proofs.encode_value.Given as goal
 
 abbrev pub invariant-loop-i : goal.invariant-loop-i
-invariant-loop-i l = (l.i ≤ l.n) × ((l.i ≤ length l.initial.out) × ((length l.out ≡ length l.initial.out) × (l.out ≡ take l.i (low_bytes l.n l.raw) ++ drop l.i l.initial.out)))
+invariant-loop-i l =
+    (l.i ≤ l.n)
+    × ((l.i ≤ length l.initial.out) × ((length l.out ≡ length l.initial.out) × (l.out ≡ take l.i (low_bytes l.n l.raw) ++ drop l.i l.initial.out)))
 
 abbrev pub decreases-loop-i : goal.decreases-loop-i
 decreases-loop-i l = l.n - l.i

@@ -17,7 +17,9 @@ abbrev called : ReadOut → ℕ → Called
 called out answer = record { out = out; answer = answer }
 
 -- what accepting hands on has the bank and the length of the read-out before
-same_but_next : (out : ReadOut) (budget : ℕ) (bytes buffer : List ℕ) {answered : ResultReadOut} {s : ReadOut} → answered ≡ accepting chunk_len out budget bytes buffer → answered ≡ Ok s → called (record { bank = out.bank; length = out.length; next = s.next }) s.next ≡ called s s.next
+same_but_next : (out : ReadOut) (budget : ℕ) (bytes buffer : List ℕ) {answered : ResultReadOut} {s : ReadOut}
+    → answered ≡ accepting chunk_len out budget bytes buffer → answered ≡ Ok s
+    → called (record { bank = out.bank; length = out.length; next = s.next }) s.next ≡ called s s.next
 same_but_next out budget bytes buffer e told = rw (handed_on chunk_len out budget bytes buffer (sym e ∙ told))
 
 pub returns-in-Ok : goal.returns-in-Ok

@@ -13,14 +13,16 @@ use Rattle.bank.proofs.layout.chunk_len.Goals as goal
 use Rattle.bank.proofs.layout.chunk_len.Goals.{After-map_of}
 
 -- the chunk, once the fields of the bank's map are known
-chunk_map : {xs : List BankField} (c : After-map_of) → (let a = c.args in xs ≡ map_of a.bank → whole_fields a.remaining c.smaller-limit.result (fields_from a.offset xs) ≡ chunk_len a.bank a.offset a.remaining a.budget)
+chunk_map : {xs : List BankField} (c : After-map_of)
+    → (let a = c.args in xs ≡ map_of a.bank → whole_fields a.remaining c.smaller-limit.result (fields_from a.offset xs) ≡ chunk_len a.bank a.offset a.remaining a.budget)
 unfolding chunk_len
 chunk_map {xs} c e =
     let a = c.args in
     ap (λ (limit : ℕ). whole_fields a.remaining limit (fields_from a.offset xs)) c.smaller-limit.ensures
     ∙ ap (λ (ys : List BankField). whole_fields a.remaining (min a.budget a.remaining) (fields_from a.offset ys)) e
 
-by_map : {told : BankMap} {t : FieldMap} → t ≡ table_of told → (c : After-map_of) → c.map_of.result ≡ told → (let a = c.args in whole_fields a.remaining c.smaller-limit.result (fields_from a.offset (entries t)) ≡ chunk_len a.bank a.offset a.remaining a.budget)
+by_map : {told : BankMap} {t : FieldMap} → t ≡ table_of told → (c : After-map_of) → c.map_of.result ≡ told
+    → (let a = c.args in whole_fields a.remaining c.smaller-limit.result (fields_from a.offset (entries t)) ≡ chunk_len a.bank a.offset a.remaining a.budget)
 by_map at c t = chunk_map c (in_table (λ (xs : List BankField). xs) at t c.map_of.ensures)
 
 pub returns-in-LuminaireInfo : goal.returns-in-LuminaireInfo

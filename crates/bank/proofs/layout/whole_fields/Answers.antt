@@ -29,7 +29,8 @@ none_left : (map : FieldMap) → map.len ≤ length map.fields → (i : ℕ) →
 none_left map room i h = no_rest map.fields map.len i room h
 
 -- the first loop ends at the first field from the offset on, or behind the map
-found : (c : Left-loop-i) → c.args.map.len ≤ length c.args.map.fields → drop c.loop-i.i (entries c.args.map) ≡ fields_from c.args.offset (entries c.args.map)
+found : (c : Left-loop-i) → c.args.map.len ≤ length c.args.map.fields
+    → drop c.loop-i.i (entries c.args.map) ≡ fields_from c.args.offset (entries c.args.map)
 found c room =
     let o = c.args.offset in
     elim c.loop-i-test.branch [
@@ -37,7 +38,8 @@ found c room =
       | then-loop-i-test+then-field-offset w ↦ from_here (here c.args.map room c.loop-i.i w.loop-i-test.true) o w.if-field-offset.true ∙ c.loop-i.invariant
     ]
 
-first : (c : Left-loop-i) → c.args.map.len ≤ length c.args.map.fields → c.loop-i.i < c.args.map.len → fields_from c.args.offset (entries c.args.map) ≡ field_at c.args.map c.loop-i.i ∷ drop (c.loop-i.i + 1) (entries c.args.map)
+first : (c : Left-loop-i) → c.args.map.len ≤ length c.args.map.fields → c.loop-i.i < c.args.map.len
+    → fields_from c.args.offset (entries c.args.map) ≡ field_at c.args.map c.loop-i.i ∷ drop (c.loop-i.i + 1) (entries c.args.map)
 first c room h = sym (found c room) ∙ here c.args.map room c.loop-i.i h
 
 pub loop-i-preserved : goal.loop-i-preserved

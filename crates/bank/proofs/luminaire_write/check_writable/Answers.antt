@@ -30,7 +30,7 @@ from_5 : (layout : Bank1Layout) (field : LuminaireField) (last : ℕ) (v : Lumin
     → read_only field.kind ≡ false → missing layout.implemented ≡ false → layout.last_offset ≡ OptionU8.Some last → format_in layout.content_format_id ≡ some v
     → first_of (write_checks layout field) ≡ cond (not (from_format field.since v)) (some FieldNotInFormat) (cond (not (ends_by field last)) (some TooShort) none)
 unfolding first_of
-from_5 layout field last v writable there last-is format_is = rw (writable, there, last-is, format_is)
+from_5 layout field last v writable there last_is format_is = rw (writable, there, last_is, format_is)
 
 pub returns-then-is_layout_id : goal.returns-then-is_layout_id
 unfolding first_of check_writable

@@ -8,7 +8,9 @@ use Rattle.records.specs.Cut.{stored_at}
 use Rattle.records.proofs.cut_plan.make_stores.Given as goal
 
 abbrev pub invariant-loop-i : goal.invariant-loop-i
-invariant-loop-i l = (stored_at (drop l.i l.offsets) (drop l.i l.values) l.bank ≡ stored_at l.offsets l.values l.initial.bank) × (l.i ≤ length l.offsets) × (length l.bank ≡ length l.initial.bank)
+invariant-loop-i l =
+    (stored_at (drop l.i l.offsets) (drop l.i l.values) l.bank ≡ stored_at l.offsets l.values l.initial.bank)
+    × (l.i ≤ length l.offsets) × (length l.bank ≡ length l.initial.bank)
 
 abbrev pub decreases-loop-i : goal.decreases-loop-i
 decreases-loop-i l = length l.offsets - l.i

@@ -24,10 +24,14 @@ made c =
       | else-cut-count w ↦ omega (arith, w.made-is, w.if-cut-count.false)
     ]
 
-offsets_made : (c : Joined-cut-count) → (let a = c.args in AcceptedPlan a.plan a.text.now c.in-Ok.count c.stores.new.offsets c.stores.new.values) → c.if-cut-count.made ≤ length c.stores.new.offsets
+offsets_made : (c : Joined-cut-count)
+    → (let a = c.args in AcceptedPlan a.plan a.text.now c.in-Ok.count c.stores.new.offsets c.stores.new.values)
+    → c.if-cut-count.made ≤ length c.stores.new.offsets
 offsets_made c e = omega (arith, made c, offsets_fit e)
 
-values_made : (c : Joined-cut-count) → (let a = c.args in AcceptedPlan a.plan a.text.now c.in-Ok.count c.stores.new.offsets c.stores.new.values) → c.if-cut-count.made ≤ length c.stores.new.values
+values_made : (c : Joined-cut-count)
+    → (let a = c.args in AcceptedPlan a.plan a.text.now c.in-Ok.count c.stores.new.offsets c.stores.new.values)
+    → c.if-cut-count.made ≤ length c.stores.new.values
 values_made c e = omega (arith, made c, values_fit e)
 
 pub slice_bounds-offsets-end : goal.slice_bounds-offsets-end

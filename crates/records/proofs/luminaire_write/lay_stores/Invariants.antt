@@ -10,7 +10,9 @@ use Rattle.records.proofs.Stores.{Laid}
 use Rattle.records.proofs.luminaire_write.lay_stores.Given as goal
 
 abbrev pub invariant-loop-index : goal.invariant-loop-index
-invariant-loop-index l = (l.index ≤ 18) × (l.table ≡ luminaire_fields) × (l.count ≤ 257 * l.index) × Laid l.initial.offsets l.initial.values 0 (gather (stores_at l.numbers l.text_field l.text) (take l.index luminaire_fields)) l.offsets l.values l.count
+invariant-loop-index l =
+    (l.index ≤ 18) × (l.table ≡ luminaire_fields) × (l.count ≤ 257 * l.index)
+    × Laid l.initial.offsets l.initial.values 0 (gather (stores_at l.numbers l.text_field l.text) (take l.index luminaire_fields)) l.offsets l.values l.count
 
 abbrev pub decreases-loop-index : goal.decreases-loop-index
 decreases-loop-index l = 18 - l.index

@@ -9,7 +9,9 @@ use Rattle.records.proofs.Stores.{Laid}
 use Rattle.records.proofs.luminaire_write.lay_write.Given as goal
 
 abbrev pub invariant-loop-place : goal.invariant-loop-place
-invariant-loop-place l = (l.place ≤ 3) × (WithinBank l.field) × (length l.bytes ≤ l.field.len) × (l.n ≤ 65000 + 256 * l.place) × Laid l.initial.offsets l.initial.values l.count (flat (stage_stores l.bytes) (take l.place (stages_of l.index l.field (length l.bytes)))) l.offsets l.values l.n
+invariant-loop-place l =
+    (l.place ≤ 3) × (WithinBank l.field) × (length l.bytes ≤ l.field.len) × (l.n ≤ 65000 + 256 * l.place)
+    × Laid l.initial.offsets l.initial.values l.count (flat (stage_stores l.bytes) (take l.place (stages_of l.index l.field (length l.bytes)))) l.offsets l.values l.n
 
 abbrev pub decreases-loop-place : goal.decreases-loop-place
 decreases-loop-place l = 3 - l.place

@@ -10,7 +10,9 @@ use Rattle.records.proofs.Planned.{Planned}
 use Rattle.records.proofs.luminaire_write.planned_writes.Given as goal
 
 abbrev pub invariant-loop-index : goal.invariant-loop-index
-invariant-loop-index l = (l.index ≤ 18) × (l.table ≡ luminaire_fields) × (l.counts.writes ≤ l.index) × (l.counts.bytes ≤ 256 * l.index) × Planned l.initial.fields l.initial.lens l.initial.bytes (gather (writes_at l.numbers l.text_field l.text) (take l.index luminaire_fields)) l.fields l.lens l.bytes l.counts
+invariant-loop-index l =
+    (l.index ≤ 18) × (l.table ≡ luminaire_fields) × (l.counts.writes ≤ l.index) × (l.counts.bytes ≤ 256 * l.index)
+    × Planned l.initial.fields l.initial.lens l.initial.bytes (gather (writes_at l.numbers l.text_field l.text) (take l.index luminaire_fields)) l.fields l.lens l.bytes l.counts
 
 abbrev pub decreases-loop-index : goal.decreases-loop-index
 decreases-loop-index l = 18 - l.index

@@ -2,7 +2,6 @@
 -- Assumes nothing.
 use Rattle.records.proofs.Texts.{bounded}
 use Rattle.records.proofs.memory_bank_parser.escape_into_bounded.Goals as goal
-use Rattle.records.proofs.memory_bank_parser.escape_into_bounded.Goals.{After-bytes-room}
 
 pub returns : goal.returns
 returns c =

@@ -8,7 +8,9 @@ use lib.Seq.{sets}
 use Rattle.records.proofs.output.put_all.Given as goal
 
 abbrev pub invariant-loop-i : goal.invariant-loop-i
-invariant-loop-i l = (l.i ≤ length l.bytes) × (l.i ≤ l.room) × (l.at + l.room ≡ length l.initial.out) × (l.out ≡ sets l.initial.out l.at (take l.i l.bytes))
+invariant-loop-i l =
+    (l.i ≤ length l.bytes) × (l.i ≤ l.room) × (l.at + l.room ≡ length l.initial.out)
+    × (l.out ≡ sets l.initial.out l.at (take l.i l.bytes))
 
 abbrev pub decreases-loop-i : goal.decreases-loop-i
 decreases-loop-i l = length l.bytes - l.i

@@ -12,14 +12,16 @@ use Rattle.records.proofs.utf8.followed.Goals as goal
 use Rattle.records.proofs.utf8.followed.Goals.{After-is_within, After-is_within-in-loop-i}
 
 -- what is asked, by the second byte
-second : (c : After-is_within) {b : Bool} → c.is_within.result ≡ b → (let a = c.args in follow (to a.low a.high ∷ replicate (a.len - 2) tail) (drop 1 a.bytes.now) ≡ b && follow (replicate (a.len - 2) tail) (drop 2 a.bytes.now))
+second : (c : After-is_within) {b : Bool} → c.is_within.result ≡ b
+    → (let a = c.args in follow (to a.low a.high ∷ replicate (a.len - 2) tail) (drop 1 a.bytes.now) ≡ b && follow (replicate (a.len - 2) tail) (drop 2 a.bytes.now))
 second c e =
     let a = c.args in
     next a.bytes.now 1 (to a.low a.high) (replicate (a.len - 2) tail) (omega arith)
     ∙ ap (λ (t : Bool). t && follow (replicate (a.len - 2) tail) (drop 2 a.bytes.now)) (sym c.is_within.ensures ∙ e)
 
 -- and by byte i
-further : (c : After-is_within-in-loop-i) {b : Bool} → c.is_within-in-loop-i.result ≡ b → (let a = c.args in follow (to a.low a.high ∷ replicate (a.len - 2) tail) (drop 1 a.bytes.now) ≡ b && follow (replicate (a.len - (c.loop-i.i + 1)) tail) (drop (c.loop-i.i + 1) a.bytes.now))
+further : (c : After-is_within-in-loop-i) {b : Bool} → c.is_within-in-loop-i.result ≡ b
+    → (let a = c.args in follow (to a.low a.high ∷ replicate (a.len - 2) tail) (drop 1 a.bytes.now) ≡ b && follow (replicate (a.len - (c.loop-i.i + 1)) tail) (drop (c.loop-i.i + 1) a.bytes.now))
 further c e =
     let a = c.args in
     c.loop-i.invariant.2

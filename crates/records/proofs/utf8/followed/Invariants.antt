@@ -9,7 +9,9 @@ use Rattle.records.specs.Utf8.{to, tail, follow}
 use Rattle.records.proofs.utf8.followed.Given as goal
 
 abbrev pub invariant-loop-i : goal.invariant-loop-i
-invariant-loop-i l = (2 ≤ l.i) × (l.i ≤ l.len) × (follow (to l.low l.high ∷ replicate (l.len - 2) tail) (drop 1 l.bytes) ≡ follow (replicate (l.len - l.i) tail) (drop l.i l.bytes))
+invariant-loop-i l =
+    (2 ≤ l.i) × (l.i ≤ l.len)
+    × (follow (to l.low l.high ∷ replicate (l.len - 2) tail) (drop 1 l.bytes) ≡ follow (replicate (l.len - l.i) tail) (drop l.i l.bytes))
 
 abbrev pub decreases-loop-i : goal.decreases-loop-i
 decreases-loop-i l = l.len - l.i

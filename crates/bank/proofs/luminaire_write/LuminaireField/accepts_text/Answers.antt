@@ -10,7 +10,8 @@ use Rattle.bank.proofs.TextChecks.{is_none, accepted_exactly}
 use Rattle.bank.proofs.luminaire_write.LuminaireField.accepts_text.Goals as goal
 use Rattle.bank.proofs.luminaire_write.LuminaireField.accepts_text.Goals.{After-text_refusal}
 
-told : (c : After-text_refusal) {t : OptionRefusal} → c.text_refusal.result ≡ t → (let a = c.args in accepts_text a.self a.text.now ≡ is_none (refusal_in t))
+told : (c : After-text_refusal) {t : OptionRefusal} → c.text_refusal.result ≡ t
+    → (let a = c.args in accepts_text a.self a.text.now ≡ is_none (refusal_in t))
 told c e =
     let a = c.args in
     accepted_exactly a.self a.text.now ∙ ap is_none (told_refusal (first_of (text_checks a.self a.text.now)) c.text_refusal.ensures e)

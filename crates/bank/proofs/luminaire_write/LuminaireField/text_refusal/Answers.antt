@@ -19,7 +19,8 @@ text_field : (c : Else-not-is_text) → is_text_kind c.args.self.kind ≡ true
 text_field c = sym c.is_text.ensures ∙ c.if-not-is_text.false
 
 -- nor does 15, and the scan has found this
-scanned : (c : Else-self-text) {o : Option ℕ} → is_text_kind c.args.self.kind ≡ true → (let a = c.args in first_not_printable a.text.now ≡ o → first_of (text_checks a.self a.text.now) ≡ first_of (not_printable_at o))
+scanned : (c : Else-self-text) {o : Option ℕ} → is_text_kind c.args.self.kind ≡ true
+    → (let a = c.args in first_not_printable a.text.now ≡ o → first_of (text_checks a.self a.text.now) ≡ first_of (not_printable_at o))
 scanned c text e =
     let a = c.args in
     letters_left a.self a.text.now text c.if-self-text.false ∙ ap (λ (o : Option ℕ). first_of (not_printable_at o)) e

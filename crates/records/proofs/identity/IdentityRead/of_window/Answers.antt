@@ -12,7 +12,8 @@ use Rattle.records.proofs.identity.IdentityRead.of_window.Goals as goal
 use Rattle.records.proofs.identity.IdentityRead.of_window.Goals.{After-within-index, then-is_mask-via-then-is_mask, then-is_mask-via-else-is_mask+then-is_mask-2, then-is_mask-via-else-is_mask+else-is_mask-2+then-is_mask-3}
 
 -- what the window says is what its three parts say
-parts : (c : After-within-index) → (of_window c.args.window.now ≡ known_if (identity_of (unless_ff (some c.within-gtin.result.now)) (unless_ff (some c.within-number.result.now)) (unless_ff (some c.within-index.result.now))))
+parts : (c : After-within-index)
+    → (of_window c.args.window.now ≡ known_if (identity_of (unless_ff (some c.within-gtin.result.now)) (unless_ff (some c.within-number.result.now)) (unless_ff (some c.within-index.result.now))))
 parts c =
     in_window c.args.window.now (omega arith)
     c.within-gtin.ensures c.within-number.ensures c.within-index.ensures

@@ -12,7 +12,9 @@ use Rattle.records.specs.Plan.{field_checks}
 use Rattle.records.proofs.luminaire_write.Plan.fields_refusal.Given as goal
 
 abbrev pub invariant-loop-index : goal.invariant-loop-index
-invariant-loop-index l = (l.index ≤ 18) × (l.table ≡ luminaire_fields) × (first_of (gather (field_checks l.self l.text) (take l.index luminaire_fields)) ≡ none)
+invariant-loop-index l =
+    (l.index ≤ 18) × (l.table ≡ luminaire_fields)
+    × (first_of (gather (field_checks l.self l.text) (take l.index luminaire_fields)) ≡ none)
 
 abbrev pub decreases-loop-index : goal.decreases-loop-index
 decreases-loop-index l = 18 - l.index
