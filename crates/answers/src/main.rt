@@ -2,6 +2,8 @@
 // digits for each request on standard input, a line for each answer on standard output.
 #![tactic(auto)]
 
+ghost use Rattle.std.specs.Prelude.{◌≤◌, IfOk, length};
+
 mod banks;
 mod bus_unit;
 mod cut_plan;
@@ -15,10 +17,10 @@ mod plan;
 mod read_out;
 
 use std::io;
-use std::io::Read;
+use std::io::{ErrorKind, Read};
 
 // The bytes of a block.
-const BLOCK_LEN: u64 = 65_536;
+const BLOCK_LEN: usize = 65_536;
 
 // Room for the answers that are not written yet.
 const TEXT_LEN: usize = 65_536;
@@ -75,23 +77,40 @@ fn answer_block(rt: &impl Print, block: &[u8], text: &mut [u8]) -> io::Result<()
     flush(rt, text, n)
 }
 
+// Reads until the slice is full or the input ends, and answers how many bytes were read.
+fn read_full<R: Read>(input: &mut R, block: &mut [u8]) -> io::Result<usize>
+    ensures { IfOk result (λ n. n ≤ length block.new) }
+{
+    let mut n = 0;
+    for _ in 0..u64::MAX {
+        if n >= block.len() {
+            return Ok(n);
+        }
+        match input.read(&mut block[n..]) {
+            Ok(0) => return Ok(n),
+            Ok(count) => n += count,
+            Err(error) => {
+                if error.kind() != ErrorKind::Interrupted {
+                    return Err(error);
+                }
+            }
+        }
+    }
+    Err(io::Error::from(ErrorKind::TimedOut))
+}
+
 // Reads a block whole and answers it; false at the end of the input.
-fn answer_some(
-    rt: &(impl Input + Print),
-    block: &mut Vec<u8>,
-    text: &mut [u8],
-) -> io::Result<bool> {
-    block.clear();
-    rt.reader().take(BLOCK_LEN).read_to_end(block)?;
-    if block.is_empty() {
+fn answer_some(rt: &(impl Input + Print), block: &mut [u8], text: &mut [u8]) -> io::Result<bool> {
+    let n = read_full(&mut rt.reader(), block)?;
+    if n == 0 {
         return Ok(false);
     }
-    answer_block(rt, block, text)?;
+    answer_block(rt, &block[..n], text)?;
     Ok(true)
 }
 
-// The loop counts its turns up to a number that no input uses up, since a proved loop has to end.
-fn answer_all(rt: &(impl Input + Print), block: &mut Vec<u8>, text: &mut [u8]) -> io::Result<()> {
+// The loops here count their turns up to a number that no input uses up, since a proved loop has to end.
+fn answer_all(rt: &(impl Input + Print), block: &mut [u8], text: &mut [u8]) -> io::Result<()> {
     for _ in 0..u64::MAX {
         if !answer_some(rt, block, text)? {
             break;
@@ -101,7 +120,7 @@ fn answer_all(rt: &(impl Input + Print), block: &mut Vec<u8>, text: &mut [u8]) -
 }
 
 fn main(rt: HostRuntime) -> io::Result<()> {
-    let mut block = Vec::new(rt.alloc());
+    let mut block = [0; BLOCK_LEN];
     let mut text = [0; TEXT_LEN];
     answer_all(&rt, &mut block, &mut text)
 }

@@ -1,16 +1,27 @@
 -- Laws of reading and writing: what is printed for the bytes that a reader has comes behind those that a writer holds.
 -- Assumes nothing.
-use Rattle.std.specs.Prelude.{◌≡◌, ℕ, ◌≤◌, List, length, take, Option, Some, None, Result, Ok, Err, IfSome, OnOk}
-use Rattle.std.specs.Io.KnownBytes.{Appends}
-use Rattle.std.specs.Option.{option_map}
-use Rattle.std.specs.Io.Take.{take_limit, take_inner, take_remaining}
-use Rattle.std.specs.declared.io.Take.{Take}
-use Rattle.std.proofs.Common.{sym, ap, ◌∙◌, subst, arith}
+use Rattle.std.specs.Prelude.{◌≡◌, ℕ, ◌+◌, ◌-◌, ◌<◌, ◌≤◌, List, ◌++◌, length, take, drop, ltb, Option, Some, None, Result, Ok, Err, IfSome, OnErr, OnOk}
+use Rattle.std.specs.Io.KnownBytes.{Appends, Consumes, IsAtEnd}
+use Rattle.std.proofs.Common.{sym, ap, ◌∙◌, subst, arith, append-nil, drop_at, length-take-le, take_all, take_at}
+use Rattle.std.proofs.KnownBytes.{Appends-trans, Consumes-trans}
+use Rattle.std.proofs.lemmas.Bool.{ltb-true, ltb-false}
+use Rattle.std.proofs.lemmas.List.{take-append-le, take_rest}
+use borrow.Rule.Slice.PartMut.{put_mid, post_of, take_put}
+use lib.Seq.{take-add}
 use Rattle.bus.specs.Value.{laid_into}
 use Rattle.bus.proofs.Lists.{sets_laid}
+use Rattle.bus.proofs.Tests.{by_test}
 use Rattle.records.proofs.Laying.{front_laid}
 use Rattle.stores.specs.Listing.{printed}
 use Rattle.stores.proofs.Answers.{printed_short}
+
+-- what a read gives stands behind what is filled
+pub filled : (a b c : Option (List ℕ)) (block part : List ℕ) (k n count : ℕ) → n ≤ length block → count ≤ length part → Consumes a b (take n block) → Consumes b c (take count part) → Consumes a c (take (n + count) (put_mid n k block part))
+filled a b c block part k n count h fits front read =
+    let rest = post_of n k block in
+    let new = put_mid n k block part in
+    let more = ap (take count) (drop_at (take n block) (part ++ rest) n (length-take-le n block h)) ∙ take-append-le count part rest fits in
+    subst (Consumes a c) (sym (take-add n count new ∙ ap (λ l. l ++ take count (drop n new)) (take_put n k block part h) ∙ ap (λ l. take n block ++ l) more)) (Consumes-trans a b c _ _ front read)
 
 -- the part of the text that is written
 pub whole : (file out : List ℕ) {text : List ℕ} {n : ℕ} → n ≡ length (printed file) → text ≡ laid_into (printed file) out → 4096 ≤ length out → take n text ≡ printed file
@@ -18,13 +29,24 @@ whole file out e f h =
     let xs = printed file in
     rw (e, f, sym (sets_laid xs out)) (front_laid xs out (omega (arith, printed_short file, h)))
 
--- the bytes that are read of those that a reader has
-part : (known : Option (List ℕ)) (file : List ℕ) → IfSome (option_map (take 4096) known) (λ xs. file ≡ xs) → IfSome known (λ xs. file ≡ take 4096 xs)
-part None file h = h
-part (Some xs) file h = h
+-- a slice that is full, or holds all that a reader had
+pub read : (known left : Option (List ℕ)) (block : List ℕ) (n m : ℕ) → length block ≡ m → n ≤ length block → Consumes known left (take n block) → (n < length block → IsAtEnd left) → IfSome known (λ xs. take n block ≡ take m xs)
+read None left block n m e h bytes end = tt
+read (Some xs) None block n m e h bytes end = absurd bytes
+read (Some xs) (Some ys) block n m e h bytes end =
+    by_test (ltb n m)
+    (λ t.
+    let short : n < length block = omega (arith, ltb-true n m t, e) in
+    let all : xs ≡ take n block = bytes ∙ ap (λ l. take n block ++ l) (end short) ∙ append-nil (take n block) in
+    sym (take_all m xs (omega (arith, ap length all, length-take-le n block h, short, e)) ∙ all))
+    (λ t.
+    let full : n ≡ m = omega (arith, ltb-false n m t, e, h) in
+    sym (ap (take m) bytes ∙ take_at (take n block) ys m (length-take-le n block h ∙ full)))
 
-pub read : {R : Type 0} (remaining : R → Option (List ℕ)) (t : Take R) (input : R) (file : List ℕ) → take_limit t ≡ 4096 → take_inner t ≡ input → IfSome (take_remaining remaining t) (λ xs. file ≡ xs) → IfSome (remaining input) (λ xs. file ≡ take 4096 xs)
-read remaining t input file e f h = part (remaining input) file (rw (e, f) at h)
+-- what one write appends behind what is written
+pub appended : (a b c : Option (List ℕ)) (text : List ℕ) (n count : ℕ) → Appends a b (take n text) → Appends b c (take count (take (length text - n) (drop n text))) → Appends a c (take (n + count) text)
+appended a b c text n count front more =
+    subst (Appends a c) (ap (λ l. take n text ++ take count l) (take_rest text n) ∙ sym (take-add n count text)) (Appends-trans a b c _ _ front more)
 
 -- what is written
 pub written : {E : Type 0} (r : Result (Unit {0}) E) (known old new : Option (List ℕ)) (file : List ℕ) {bytes : List ℕ} → OnOk r (Appends old new bytes) → bytes ≡ printed file → IfSome known (λ xs. file ≡ take 4096 xs) → OnOk r (IfSome known (λ xs. Appends old new (printed (take 4096 xs))))
@@ -32,3 +54,10 @@ written (Err e) known old new file a b c = tt
 written (Ok u) None old new file a b c = tt
 written (Ok u) (Some xs) old new file a b c =
     subst (λ (bs : List ℕ). Appends old new bs) (b ∙ ap printed c) a
+
+-- what an error leaves
+pub cut_off : {E : Type 0} (r : Result (Unit {0}) E) (known old new : Option (List ℕ)) (file : List ℕ) {bytes : List ℕ} → OnErr r ((k : ℕ) × Appends old new (take k bytes)) → bytes ≡ printed file → IfSome known (λ xs. file ≡ take 4096 xs) → OnErr r (IfSome known (λ xs. (k : ℕ) × Appends old new (take k (printed (take 4096 xs)))))
+cut_off (Ok u) known old new file a b c = tt
+cut_off (Err e) None old new file a b c = tt
+cut_off (Err e) (Some xs) old new file a b c =
+    (a.0, subst (λ (bs : List ℕ). Appends old new (take a.0 bs)) (b ∙ ap printed c) a.1)
