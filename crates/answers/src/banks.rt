@@ -1,78 +1,85 @@
 // The functions of banks/mod.rs.
-use crate::line;
-use bus::{BankValue, OptionBankValue, ValueWidth};
+use crate::output::{Output, Put};
+use crate::request::{REQUEST_LEN, Request, Take};
+use bus::{BankValue, ValueWidth};
 
-pub(crate) fn answer(number: u8, request: &[u8], text: &mut [u8], n: usize) -> usize {
+// By a match, as in main.rt.
+pub(crate) fn answer(number: u8, request: &mut Request, out: &mut Output) {
     match number {
-        0x01..=0x05 => of_width(number, line::width_at(request, 1), text, n),
-        0x06 => to_signed(request, text, n),
-        0x07..=0x08 => of_value(number, line::bank_value_at(request, 1), text, n),
-        0x09 => is_saturated(request, text, n),
-        0x0A => read_value(request, text, n),
-        0x0B => classify(request, text, n),
-        0x0C => encode_value(request, text, n),
-        0x0D => line::put_i8(text, n, bus::signed_byte(line::u8_at(request, 1))),
-        _ => n,
+        0x01 => out.put(ValueWidth::take(request).bytes()),
+        0x02 => out.put(ValueWidth::take(request).mask()),
+        0x03 => out.put(ValueWidth::take(request).tmask()),
+        0x04 => out.put(ValueWidth::take(request).max_valid()),
+        0x05 => out.put(ValueWidth::take(request).is_signed()),
+        0x06 => out.put(ValueWidth::take(request).to_signed(request.take())),
+        0x07 => out.put(BankValue::take(request).value()),
+        0x08 => out.put(BankValue::take(request).is_temporarily_unavailable()),
+        0x09 => is_saturated(request, out),
+        0x0A => read_value(request, out),
+        0x0B => out.put(bus::classify(request.take(), request.take())),
+        0x0C => encode_value(request, out),
+        0x0D => out.put(bus::signed_byte(request.take())),
+        _ => {}
     }
 }
 
-fn of_width(number: u8, width: ValueWidth, text: &mut [u8], n: usize) -> usize {
-    match number {
-        0x01 => line::put_u64(text, n, width.bytes() as u64),
-        0x02 => line::put_u64(text, n, width.mask()),
-        0x03 => line::put_u64(text, n, width.tmask()),
-        0x04 => line::put_u64(text, n, width.max_valid()),
-        _ => line::put_bool(text, n, width.is_signed()),
-    }
+fn is_saturated(request: &mut Request, out: &mut Output) {
+    let width = request.take();
+    out.put(BankValue::take(request).is_saturated(width));
 }
 
-fn of_value(number: u8, value: BankValue, text: &mut [u8], n: usize) -> usize {
-    match number {
-        0x07 => line::put_option_u64(text, n, value.value()),
-        _ => line::put_bool(text, n, value.is_temporarily_unavailable()),
-    }
+fn read_value(request: &mut Request, out: &mut Output) {
+    let offset = request.take();
+    let width = request.take();
+    out.put(bus::read_value(request.take(), offset, width));
 }
 
-fn to_signed(request: &[u8], text: &mut [u8], n: usize) -> usize {
-    let width = line::width_at(request, 1);
-    line::put_i64(text, n, width.to_signed(line::u64_at(request, 2)))
+fn encode_value(request: &mut Request, out: &mut Output) {
+    let raw = request.take();
+    let width = request.take();
+    let mut space = [0; REQUEST_LEN];
+    let lent = request.lend(&mut space);
+    bus::encode_value(raw, width, lent);
+    out.put(&*lent);
 }
 
-fn is_saturated(request: &[u8], text: &mut [u8], n: usize) -> usize {
-    let width = line::width_at(request, 1);
-    let value = line::bank_value_at(request, 2);
-    line::put_bool(text, n, value.is_saturated(width))
-}
-
-fn read_value(request: &[u8], text: &mut [u8], n: usize) -> usize {
-    let offset = line::usize_at(request, 1);
-    let width = line::width_at(request, 9);
-    let bytes = line::slice_at(request, 10);
-    match bus::read_value(bytes, offset, width) {
-        OptionBankValue::Some(v) => {
-            let m = line::put_u8(text, n, 1);
-            line::put_bank_value(text, m, v)
+impl Take<'_> for ValueWidth {
+    fn take(request: &mut Request) -> Self {
+        match u8::take(request) {
+            0 => ValueWidth::U8,
+            1 => ValueWidth::U16,
+            2 => ValueWidth::U24,
+            3 => ValueWidth::U32,
+            4 => ValueWidth::U48,
+            5 => ValueWidth::I8,
+            6 => ValueWidth::I16,
+            _ => ValueWidth::I32,
         }
-        OptionBankValue::None => line::put_u8(text, n, 0),
     }
 }
 
-fn classify(request: &[u8], text: &mut [u8], n: usize) -> usize {
-    let raw = line::u64_at(request, 1);
-    let width = line::width_at(request, 9);
-    line::put_bank_value(text, n, bus::classify(raw, width))
+impl Put for ValueWidth {
+    fn put(self, out: &mut Output) {
+        out.put(self as u8);
+    }
 }
 
-// Lends an output, and puts it as the call left it.
-fn put_encoded(raw: u64, width: ValueWidth, out: &mut [u8], text: &mut [u8], n: usize) -> usize {
-    bus::encode_value(raw, width, out);
-    line::put_slice(text, n, out)
+impl Take<'_> for BankValue {
+    fn take(request: &mut Request) -> Self {
+        match u8::take(request) {
+            0 => BankValue::Reading(request.take()),
+            1 => BankValue::NotImplemented,
+            _ => BankValue::TemporarilyUnavailable,
+        }
+    }
 }
 
-fn encode_value(request: &[u8], text: &mut [u8], n: usize) -> usize {
-    let raw = line::u64_at(request, 1);
-    let width = line::width_at(request, 9);
-    let mut space = line::buffer();
-    let len = line::copy(line::slice_at(request, 10), &mut space);
-    put_encoded(raw, width, &mut space[..len], text, n)
+impl Put for BankValue {
+    fn put(self, out: &mut Output) {
+        match self {
+            BankValue::Reading(value) => out.variant(0, value),
+            BankValue::NotImplemented => out.variant(1, ()),
+            BankValue::TemporarilyUnavailable => out.variant(2, ()),
+        }
+    }
 }

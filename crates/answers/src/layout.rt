@@ -1,43 +1,34 @@
 // The functions of layout.rs.
-use crate::line;
+use crate::output::{Output, Put};
+use crate::request::{Request, Take};
+use bus::BankField;
 
-pub(crate) fn answer(number: u8, request: &[u8], text: &mut [u8], n: usize) -> usize {
-    let bank = line::u8_at(request, 1);
+// By a match, as in main.rt.
+pub(crate) fn answer(number: u8, request: &mut Request, out: &mut Output) {
     match number {
-        0x10 => line::put_option_u8(text, n, bus::bank_last_offset(bank)),
-        0x11 => line::put_option_bank_field(
-            text,
-            n,
-            bus::bank_field_map(bank, line::usize_at(request, 2)),
+        0x10 => out.put(bus::bank_last_offset(request.take())),
+        0x11 => out.put(
+            bus::bank_field_map(request.take())
+                .get(usize::take(request))
+                .copied(),
         ),
-        0x12 => line::put_u64(text, n, bus::bank_field_map_len(bank) as u64),
-        0x13 => line::put_option_bank_field(
-            text,
-            n,
-            bus::field_containing(bank, line::u16_at(request, 2)),
-        ),
-        0x14 => line::put_bool(
-            text,
-            n,
-            bus::is_field_boundary(bank, line::u16_at(request, 2)),
-        ),
-        0x15 => constants(text, n),
-        0x16 => chunk_len(request, text, n),
-        _ => n,
+        0x12 => out.put(bus::bank_field_map(request.take()).len()),
+        0x13 => out.put(bus::field_containing(request.take(), request.take())),
+        0x14 => out.put(bus::is_field_boundary(request.take(), request.take())),
+        0x15 => constants(out),
+        0x16 => out.put(bank::chunk_len(
+            request.take(),
+            request.take(),
+            request.take(),
+            request.take(),
+        )),
+        _ => {}
     }
 }
 
-fn chunk_len(request: &[u8], text: &mut [u8], n: usize) -> usize {
-    let bank = line::u8_at(request, 1);
-    let offset = line::u16_at(request, 2);
-    let remaining = line::u16_at(request, 4);
-    let budget = line::u16_at(request, 6);
-    line::put_u16(text, n, bank::chunk_len(bank, offset, remaining, budget))
-}
-
-fn constants(text: &mut [u8], n: usize) -> usize {
-    let m = line::put_u16(text, n, bus::BANK_META_LEN);
-    let bytes = [
+fn constants(out: &mut Output) {
+    out.put(bus::BANK_META_LEN);
+    out.put([
         bus::BANK_LOCK_BYTE,
         bus::BANK_VERSION_OFFSET,
         bus::DEVICE_TYPE_ENERGY,
@@ -48,6 +39,12 @@ fn constants(text: &mut [u8], n: usize) -> usize {
         bus::BANK_CONTROL_GEAR_DIAGNOSTICS,
         bus::BANK_LIGHT_SOURCE_DIAGNOSTICS,
         bus::BANK_LUMINAIRE_MAINTENANCE,
-    ];
-    line::put_slice(text, m, &bytes)
+    ]);
+}
+
+impl Put for BankField {
+    fn put(self, out: &mut Output) {
+        out.put(self.offset);
+        out.put(self.width);
+    }
 }

@@ -1,15 +1,15 @@
 -- The bounds of a chunk's length, where it is the smaller of budget and remaining, and that it is else the longest run of fields.
 -- Assumes nothing.
+use Rattle.std.specs.Prelude.{Option, Some, slice_get}
 use mathlib.Core.Path.{◌≡◌, refl, sym, ap, ◌∙◌}
 use mathlib.Core.Bool.{true, true≢false}
 use mathlib.Core.List.{List, [], ◌∷◌}
-use mathlib.Core.Option.{Option, some}
 use Prim.Native.Nat.{ℕ, zero, suc, ◌+◌, ◌≤◌, ◌<◌, min, max}
 use native.Mathlib.Nat.{le_of_suc-le-suc, not-suc-le-zero}
 use native.Mathlib.Omega.{arith}
 use borrow.Author.Tests.{leb-true, leb-false, ne_eqb, eq-eqb, le-leb, lt-ltb}
 use lib.Dec.{T, leb, ltb, ltb→lt}
-use lib.ListN.{length, take, drop, get_elem?}
+use lib.ListN.{length, take, drop}
 use Rattle.bus.specs.declared.layout.BankField.{BankField}
 use Rattle.bus.specs.Width.{bytes_of}
 use Rattle.bus.specs.Maps.{map_at, map_of, map_end, start_of, end_of, holds, first_with}
@@ -73,7 +73,7 @@ module _ (end : ℕ) where
 
   -- where no field that holds the offset starts there, none does
   none_starts : (o from : ℕ) (xs : List BankField) → T (runs start_of end_of end from xs)
-      → ((x : BankField) → first_with (holds o) xs ≡ some x → x.offset ≡ o → ⊥) → fields_from o xs ≡ []
+      → ((x : BankField) → first_with (holds o) xs ≡ Some x → x.offset ≡ o → ⊥) → fields_from o xs ≡ []
   unfolding fields_from first_with
   none_starts o from [] t nowhere = refl
   none_starts o from (x ∷ xs) t nowhere =
@@ -85,13 +85,13 @@ module _ (end : ℕ) where
       rw (ne_eqb x.offset o elsewhere) (none_starts o (end_of x) xs rest (λ y f. nowhere y (rw e f))))
 
 -- the field that holds an offset where it starts is the first from there on
-starts : {x : BankField} (o : ℕ) (xs : List BankField) → first_with (holds o) xs ≡ some x → x.offset ≡ o → (rest : List BankField) × (fields_from o xs ≡ x ∷ rest)
+starts : {x : BankField} (o : ℕ) (xs : List BankField) → first_with (holds o) xs ≡ Some x → x.offset ≡ o → (rest : List BankField) × (fields_from o xs ≡ x ∷ rest)
 unfolding fields_from first_with
 starts o [] e h = no_element e
 starts {x} o (y ∷ ys) e h =
     by_test (holds o y)
     (λ t.
-    let f : some y ≡ some x = rw t at e in
+    let f : Some y ≡ Some x = rw t at e in
     let same : y ≡ x = cc in
     let at : y.offset ≡ o = ap start_of same ∙ h in
     (ys, rw (eq-eqb y.offset o at, same)))
@@ -101,7 +101,7 @@ starts {x} o (y ∷ ys) e h =
     (later.0, rw (ne_eqb y.offset o elsewhere) later.1))
 
 -- one that starts before the offset does not start there
-before : {x y : BankField} {found : Option BankField} (o : ℕ) → found ≡ some x → x.offset < o → found ≡ some y → y.offset ≡ o → ⊥
+before : {x y : BankField} {found : Option BankField} (o : ℕ) → found ≡ Some x → x.offset < o → found ≡ Some y → y.offset ≡ o → ⊥
 before {x} {y} o e h f k =
     let same : x ≡ y = cc in
     omega (arith, ap start_of same)
@@ -182,7 +182,7 @@ first_and_further {len} limit x xs r =
 
 module _ (end : ℕ) {x : BankField} where
   -- a field behind others starts behind their ends
-  starts_behind : (from : ℕ) (xs : List BankField) → T (runs start_of end_of end from xs) → (i : ℕ) → get_elem? xs i ≡ some x → from ≤ x.offset
+  starts_behind : (from : ℕ) (xs : List BankField) → T (runs start_of end_of end from xs) → (i : ℕ) → slice_get xs i ≡ Some x → from ≤ x.offset
   starts_behind from [] t i e = no_element e
   starts_behind from (y ∷ ys) t zero e =
       let same : y ≡ x = cc in
@@ -191,7 +191,7 @@ module _ (end : ℕ) {x : BankField} where
       omega (arith, here start_of end_of end from y ys t, starts_behind (end_of y) ys (later start_of end_of end from y ys t) i e)
 
   -- the fields from its start on are those from its place on
-  from_place : (from : ℕ) (xs : List BankField) → T (runs start_of end_of end from xs) → (i : ℕ) → get_elem? xs i ≡ some x
+  from_place : (from : ℕ) (xs : List BankField) → T (runs start_of end_of end from xs) → (i : ℕ) → slice_get xs i ≡ Some x
       → (rest : List BankField) × ((fields_from x.offset xs ≡ x ∷ rest) × (drop i xs ≡ x ∷ rest))
   unfolding fields_from
   from_place from [] t i e = no_element e

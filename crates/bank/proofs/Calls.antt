@@ -1,14 +1,14 @@
 -- Lists of calls of a read-out: where it stands behind them, and what its buffer holds.
 -- Assumes nothing.
+use Rattle.std.specs.Prelude.{None, Ok, Option, Some, slice_get}
 use mathlib.Core.Path.{◌≡◌, refl, sym, ap, ◌∙◌}
 use mathlib.Core.List.{List, [], ◌∷◌, ◌++◌, map, append_assoc, append-nil}
-use mathlib.Core.Option.{Option, none, some}
 use Prim.Native.Nat.{ℕ, ◌+◌, ◌-◌, ◌≤◌, min}
 use native.Mathlib.Nat.{add-zero}
 use native.Mathlib.Omega.{arith}
 use borrow.Author.Tests.{ltb-true, ltb-false, eqb-true}
 use lib.Dec.{ltb}
-use lib.ListN.{length, take, drop, get_elem?, length-append, length-take, length-drop}
+use lib.ListN.{length, take, drop, length-append, length-take, length-drop}
 use lib.Seq.{take_at, drop_at, length-take-le, drop-drop, take-add}
 use Rattle.bus.proofs.Tests.{by_test}
 use Rattle.bank.specs.declared.read_out.ReadOut.{ReadOut}
@@ -80,7 +80,7 @@ module _ (chunk : ChunkRule) (rule : Bounded chunk) where
       checks = accept_checks chunk r budget bytes s.buffer
 
       go : (o : Option Refusal) → first_of checks ≡ o → Stepped s (accept budget bytes)
-      go (some e) f =
+      go (Some e) f =
           let both = reading.refused chunk r budget bytes s.buffer f in
           record {
             next_is = rw (← both.0) (omega arith);
@@ -91,7 +91,7 @@ module _ (chunk : ChunkRule) (rule : Bounded chunk) where
             room_stays = rw (← both.1);
             moved = rw (← both.0) (omega arith);
           }
-      go none f =
+      go None f =
           let both = reading.taken chunk r budget bytes s.buffer f in
           let ok = reading.acceptable chunk r budget bytes s.buffer f in
           let most : wanted_len chunk r budget ≤ left = rule.within r.bank r.next left budget in
@@ -148,7 +148,7 @@ module _ (chunk : ChunkRule) (rule : Bounded chunk) where
 
   module _ (bank : List ℕ) where
     -- an accepted chunk is the bank's bytes from the next offset on; one that is accepted when the read-out is done is empty
-    of_bank : (s : State) (budget : ℕ) (bytes : List ℕ) → first_of (accept_checks chunk s.out budget bytes s.buffer) ≡ none
+    of_bank : (s : State) (budget : ℕ) (bytes : List ℕ) → first_of (accept_checks chunk s.out budget bytes s.buffer) ≡ None
         → HoldsChunk chunk bank s (accept budget bytes) → bytes ≡ take (length bytes) (drop s.out.next bank)
     unfolding wanting
     of_bank s budget bytes f held =
@@ -156,7 +156,7 @@ module _ (chunk : ChunkRule) (rule : Bounded chunk) where
         (λ t.
         let none_left : bytes ≡ [] = no_bytes bytes (omega (arith, ok, wants_none chunk rule s.out budget (eqb-true s.out.next s.out.length t))) in
         rw none_left)
-        (λ t. held (rw (reading.valid_passes s.out budget ok.valid, t) (ap Wanted.Chunk (sym ok.exact))))
+        (λ t. held (rw (reading.valid_passes s.out budget ok.valid, t) (ap (λ (n : ℕ). Ok (Wanted.Chunk n)) (sym ok.exact))))
       where
         ok : Acceptable chunk s.out budget bytes s.buffer
         ok = reading.acceptable chunk s.out budget bytes s.buffer f
@@ -168,8 +168,8 @@ module _ (chunk : ChunkRule) (rule : Bounded chunk) where
       where
         go : (o : Option Refusal) → first_of (accept_checks chunk s.out budget bytes s.buffer) ≡ o
             → joined (taken chunk s (accept budget bytes)) ≡ take (sum (map length (taken chunk s (accept budget bytes)))) (drop s.out.next bank)
-        go (some e) f = rw (← (reading.refused chunk s.out budget bytes s.buffer f).0)
-        go none f = rw (← (reading.taken chunk s.out budget bytes s.buffer f).0, append-nil, add-zero) (of_bank s budget bytes f held)
+        go (Some e) f = rw (← (reading.refused chunk s.out budget bytes s.buffer f).0)
+        go None f = rw (← (reading.taken chunk s.out budget bytes s.buffer f).0, append-nil, add-zero) (of_bank s budget bytes f held)
 
     all_of_bank : (s : State) (calls : List Call) → s.out.next ≤ s.out.length → HoldsChunks chunk bank s calls
         → joined (accepted chunk s calls) ≡ take (sum (map length (accepted chunk s calls))) (drop s.out.next bank)
@@ -199,7 +199,7 @@ module _ (chunk : ChunkRule) (rule : Bounded chunk) where
 
   -- the answer of a call behind others
   pub answer_behind : (s : State) (before : List Call) (c : Call) (behind : List Call)
-      → get_elem? (answers_of chunk s (before ++ c ∷ behind)) (length before) ≡ some (answer chunk (after chunk s before) c)
+      → slice_get (answers_of chunk s (before ++ c ∷ behind)) (length before) ≡ Some (answer chunk (after chunk s before) c)
   answer_behind s [] c behind = refl
   answer_behind s (b ∷ before) c behind = answer_behind (step chunk s b) before c behind
 

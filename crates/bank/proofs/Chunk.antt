@@ -36,15 +36,15 @@ module _ {x : BankField} {left rest : List BankField} (here : left ≡ x ∷ res
   chunk_whole remaining limit h = rw (here, le-leb (bytes_of x.width) remaining h)
 
 -- nothing is left of the map
-module _ {left : List BankField} (none : left ≡ []) where
+module _ {left : List BankField} (end : left ≡ []) where
   pub from_end : (o : ℕ) → fields_from o left ≡ []
   unfolding fields_from
-  from_end o = rw none
+  from_end o = rw end
 
   pub further_end : (limit taken : ℕ) → with_further limit taken left ≡ taken
   unfolding with_further
-  further_end limit taken = rw none
+  further_end limit taken = rw end
 
   pub chunk_end : (remaining limit : ℕ) → whole_fields remaining limit left ≡ limit
   unfolding whole_fields
-  chunk_end remaining limit = rw none
+  chunk_end remaining limit = rw end

@@ -1,8 +1,8 @@
 -- What "done" means, for any chunk rule that has the bounds.
 -- Assumes nothing.
+use Rattle.std.specs.Prelude.{None, Ok, Option, Some}
 use mathlib.Core.Path.{◌≡◌, refl, sym, ap, ◌∙◌}
 use mathlib.Core.List.{List, [], ◌∷◌}
-use mathlib.Core.Option.{Option, none, some}
 use Prim.Native.Nat.{ℕ, ◌-◌, ◌≤◌}
 use native.Mathlib.Nat.{add-zero}
 use native.Mathlib.Omega.{arith}
@@ -11,7 +11,6 @@ use lib.ListN.{length}
 use Rattle.bus.proofs.Tests.{by_test}
 use Rattle.bank.specs.declared.refusal.Refusal.{Refusal}
 use Rattle.bank.specs.declared.read_out.ReadOut.{ReadOut}
-use Rattle.bank.specs.declared.read_out.ResultReadOut.TheVariants.{Ok}
 use Rattle.bank.specs.declared.read_out.Wanted.TheVariants.{Done, Chunk}
 use Rattle.bank.specs.Refusal.{first_of}
 use Rattle.bank.specs.Chunk.{ChunkRule, Bounded}
@@ -28,13 +27,13 @@ module _ (chunk : ChunkRule) (rule : Bounded chunk) (r : ReadOut) (budget : ℕ)
   wants_none h = omega (arith, rule.within r.bank r.next (r.length - r.next) budget)
 
   -- one that is not wants a chunk
-  only_then : first_of (want_checks r budget) ≡ none → wanting chunk r budget ≡ Done → r.next ≡ r.length
+  only_then : first_of (want_checks r budget) ≡ None → wanting chunk r budget ≡ Ok Done → r.next ≡ r.length
   unfolding wanting
   only_then sound e =
       by_test (is_done r)
       (λ t. eqb-true r.next r.length t)
       (λ t.
-      let chunk_told : Chunk (wanted_len chunk r budget) ≡ Done = rw (sound, t) at e in
+      let chunk_told : Ok (Chunk (wanted_len chunk r budget)) ≡ Ok Done = rw (sound, t) at e in
       let z : ◌≡◌ {A = ℕ} 0 1 = cc in
       let y : ⊥ = omega arith in
       absurd y)
@@ -51,8 +50,8 @@ module _ (chunk : ChunkRule) (rule : Bounded chunk) (r : ReadOut) (budget : ℕ)
   unchanged buffer = go (first_of (accept_checks chunk r budget [] buffer)) refl
     where
       go : (o : Option Refusal) → first_of (accept_checks chunk r budget [] buffer) ≡ o → buffer_after chunk r budget [] buffer ≡ buffer
-      go none f = sym (taken chunk r budget [] buffer f).1 ∙ nothing_laid buffer r.next
-      go (some x) f = sym (refused chunk r budget [] buffer f).1
+      go None f = sym (taken chunk r budget [] buffer f).1 ∙ nothing_laid buffer r.next
+      go (Some x) f = sym (refused chunk r budget [] buffer f).1
 
 pub every_read_out_done_right : EveryReadOutDoneRight
 unfolding wanting

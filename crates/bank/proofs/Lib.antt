@@ -1,4 +1,3 @@
-pub mod Options
 pub mod Checks
 pub mod Writable
 pub mod Causes

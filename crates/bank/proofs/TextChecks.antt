@@ -1,9 +1,10 @@
 -- Laws of the checks of a text: none of them applies exactly where the field accepts it, and 16 tells the first byte outside.
 -- Assumes nothing.
+use Rattle.std.proofs.lemmas.Option.{same_Some}
+use Rattle.std.specs.Prelude.{is_none, None, Option, Some}
 use mathlib.Core.Path.{◌≡◌, refl, sym, ap, ◌∙◌}
-use mathlib.Core.Bool.{Bool, true, false}
+use mathlib.Core.Bool.{true, false}
 use mathlib.Core.List.{List}
-use mathlib.Core.Option.{Option, none, some, some-injective}
 use Prim.Native.Nat.{ℕ, ◌≤◌, ◌<◌}
 use native.Mathlib.Omega.{arith}
 use borrow.Author.Tests.{lt-ltb, le-ltb, leb-true, leb-false}
@@ -19,18 +20,14 @@ use Rattle.bank.specs.Fields.{printable, first_not_printable, is_text_kind, acce
 use Rattle.bank.specs.Writable.{not_printable_at, text_checks, FirstOutside, TextTakenExactly}
 use Rattle.bank.proofs.Texts.{printable_none, none_printable, found_first, found_below, first_found}
 
-abbrev pub is_none : {A : Type 0} → Option A → Bool
-is_none none = true
-is_none (some x) = false
-
-none_where : {A : Type 0} (o : Option A) → is_none o ≡ true → o ≡ none
-none_where none e = refl
-none_where (some x) e = absurd (no_yes e)
+none_where : {A : Type 0} (o : Option A) → is_none o ≡ true → o ≡ None
+none_where None e = refl
+none_where (Some x) e = absurd (no_yes e)
 
 none_found : (text : List ℕ) (o : Option ℕ) → first_not_printable text ≡ o → printable text ≡ is_none (first_of (not_printable_at o))
 unfolding first_of
-none_found text none e = printable_none text e
-none_found text (some i) e = by_test (printable text) (λ t. no_element (sym (none_printable text t) ∙ e)) (λ t. t)
+none_found text None e = printable_none text e
+none_found text (Some i) e = by_test (printable text) (λ t. no_element (sym (none_printable text t) ∙ e)) (λ t. t)
 
 -- behind the kind and the length, the letters count
 pub letters_left : (f : LuminaireField) (text : List ℕ) → is_text_kind f.kind ≡ true → length text ≤ f.len → first_of (text_checks f text) ≡ first_of (not_printable_at (first_not_printable text))
@@ -47,24 +44,24 @@ accepted_exactly f text =
     (λ l. rw (k, l, lt-ltb f.len (length text) (leb-false (length text) f.len l))))
     (λ k. rw k)
 
-pub text_passes : (f : LuminaireField) (text : List ℕ) → accepts_text f text ≡ true → first_of (text_checks f text) ≡ none
+pub text_passes : (f : LuminaireField) (text : List ℕ) → accepts_text f text ≡ true → first_of (text_checks f text) ≡ None
 text_passes f text e = none_where (first_of (text_checks f text)) (sym (accepted_exactly f text) ∙ e)
 
-pub passed_text : (f : LuminaireField) (text : List ℕ) → first_of (text_checks f text) ≡ none → accepts_text f text ≡ true
+pub passed_text : (f : LuminaireField) (text : List ℕ) → first_of (text_checks f text) ≡ None → accepts_text f text ≡ true
 passed_text f text e = accepted_exactly f text ∙ ap is_none e
 
 -- where 16 is answered, the scan has found its index in a text that is not too long
-found_at : (o : Option ℕ) {i : ℕ} → first_of (not_printable_at o) ≡ some (ByteNotPrintable i) → o ≡ some i
+found_at : (o : Option ℕ) {i : ℕ} → first_of (not_printable_at o) ≡ Some (ByteNotPrintable i) → o ≡ Some i
 unfolding first_of
-found_at none e = no_element e
-found_at (some j) {i} e = let same : j ≡ i = cc in ap some same
+found_at None e = no_element e
+found_at (Some j) {i} e = let same : j ≡ i = cc in ap Some same
 
 -- a cause that carries no value is another
-pub other : {A : Type 0} {r : Refusal} {i : ℕ} → value_of r ≡ none → some r ≡ some (ByteNotPrintable i) → A
-other n e = no_element (sym n ∙ ap value_of (some-injective _ _ e))
+pub other : {A : Type 0} {r : Refusal} {i : ℕ} → value_of r ≡ None → Some r ≡ Some (ByteNotPrintable i) → A
+other n e = no_element (sym n ∙ ap value_of (same_Some _ _ e))
 
-module _ (f : LuminaireField) (text : List ℕ) {i : ℕ} (e : first_of (text_checks f text) ≡ some (ByteNotPrintable i)) where
-  found : (length text ≤ f.len) × (first_not_printable text ≡ some i)
+module _ (f : LuminaireField) (text : List ℕ) {i : ℕ} (e : first_of (text_checks f text) ≡ Some (ByteNotPrintable i)) where
+  found : (length text ≤ f.len) × (first_not_printable text ≡ Some i)
   unfolding first_of
   found =
       by_test (is_text_kind f.kind)
@@ -85,15 +82,15 @@ module _ (f : LuminaireField) (text : List ℕ) {i : ℕ} (e : first_of (text_ch
   refused_first = found_first text found.1
 
 module _ (f : LuminaireField) (text : List ℕ) where
-  kind_first : is_text_kind f.kind ≡ false → first_of (text_checks f text) ≡ some FieldNotText
+  kind_first : is_text_kind f.kind ≡ false → first_of (text_checks f text) ≡ Some FieldNotText
   unfolding first_of
   kind_first k = rw k
 
-  length_next : is_text_kind f.kind ≡ true → f.len < length text → first_of (text_checks f text) ≡ some TextTooLong
+  length_next : is_text_kind f.kind ≡ true → f.len < length text → first_of (text_checks f text) ≡ Some TextTooLong
   unfolding first_of
   length_next k h = rw (k, lt-ltb f.len (length text) h)
 
-  letters_last : {i : ℕ} → is_text_kind f.kind ≡ true → length text ≤ f.len → first_not_printable text ≡ some i → first_of (text_checks f text) ≡ some (ByteNotPrintable i)
+  letters_last : {i : ℕ} → is_text_kind f.kind ≡ true → length text ≤ f.len → first_not_printable text ≡ Some i → first_of (text_checks f text) ≡ Some (ByteNotPrintable i)
   unfolding first_of
   letters_last k h e = letters_left f text k h ∙ rw e
 

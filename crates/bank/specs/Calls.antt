@@ -1,17 +1,15 @@
 -- 01, "A cut plan, read back": the calls of a read-out, one after the other, and what holds of every list of them, for
 -- any chunk rule that has the bounds.
 -- Assumes nothing.
-use Rattle.std.specs.Prelude.{◌≡◌, Bool, cond, List, [], ◌∷◌, ◌++◌, map, ℕ, ◌+◌, ◌≤◌, ◌<◌, eqb, length, take, drop}
-use Rattle.std.proofs.Math.Option.{some}
-use Rattle.std.proofs.Math.ListN.{get_elem?}
+use Rattle.std.specs.Prelude.{◌≡◌, List, [], ◌∷◌, ◌++◌, map, ℕ, ◌+◌, ◌≤◌, length, take, drop, Err, Ok, Result}
 use Rattle.bank.specs.declared.refusal.Refusal.{Refusal}
-use Rattle.bank.specs.declared.call_list.Called.{Called}
+use Rattle.bank.specs.declared.call_list.Call.{Call as LentCall}
+use Rattle.bank.specs.declared.call_list.Call as lent
+use Rattle.bank.specs.declared.call_list.Answer.{Answer}
+use Rattle.bank.specs.declared.call_list.Answer.TheVariants.{Wanting, Accepting}
 use Rattle.bank.specs.declared.read_out.ReadOut.{ReadOut}
-use Rattle.bank.specs.declared.read_out.ResultReadOut.{ResultReadOut}
-use Rattle.bank.specs.declared.read_out.ResultReadOut.TheVariants.{Ok, Err}
 use Rattle.bank.specs.declared.read_out.Wanted.{Wanted}
-use Rattle.bank.specs.Refusal.{number_of}
-use Rattle.bank.specs.Chunk.{ChunkRule, Bounded, chunk_len}
+use Rattle.bank.specs.Chunk.{ChunkRule, Bounded}
 use Rattle.bank.specs.ReadOut.{laid, wanting, accepting, buffer_after}
 
 -- "The calls are wanting with a budget, and accepting with a budget and a chunk."
@@ -27,33 +25,32 @@ pub record State : Type 0 where
 abbrev pub state_of : ReadOut → List ℕ → State
 state_of out buffer = record { out = out; buffer = buffer }
 
--- what a call answers
-pub data Answer : Type 0 where
-  wanted : Wanted → Answer
-  handed : ResultReadOut → Answer
-
 -- the read-out that a call hands back, or the one it got
-abbrev handed_back : ResultReadOut → ReadOut → ReadOut
-handed_back (Ok r) before = r
-handed_back (Err e) before = before
+abbrev handed_or : Result ReadOut Refusal → ReadOut → ReadOut
+handed_or (Ok r) before = r
+handed_or (Err e) before = before
+
+abbrev pub handed_back : Answer → ReadOut → ReadOut
+handed_back (Wanting w) before = before
+handed_back (Accepting h) before = handed_or h before
 
 -- the chunk that an accepted call has stored
-abbrev stored_by : ResultReadOut → List ℕ → List (List ℕ)
+abbrev stored_by : Result ReadOut Refusal → List ℕ → List (List ℕ)
 stored_by (Ok r) bytes = bytes ∷ []
 stored_by (Err e) bytes = []
 
 module _ (chunk : ChunkRule) where
   -- "each call answers what "The read-out" above gives", refused calls included
   abbrev pub answer : State → Call → Answer
-  answer s (want budget) = wanted (wanting chunk s.out budget)
-  answer s (accept budget bytes) = handed (accepting chunk s.out budget bytes s.buffer)
+  answer s (want budget) = Wanting (wanting chunk s.out budget)
+  answer s (accept budget bytes) = Accepting (accepting chunk s.out budget bytes s.buffer)
 
   -- "each call gets the read-out last handed back, by starting or accepting"
   abbrev pub step : State → Call → State
   step s (want budget) = s
   step s (accept budget bytes) =
       record {
-        out = handed_back (accepting chunk s.out budget bytes s.buffer) s.out;
+        out = handed_or (accepting chunk s.out budget bytes s.buffer) s.out;
         buffer = buffer_after chunk s.out budget bytes s.buffer;
       }
 
@@ -79,7 +76,7 @@ module _ (chunk : ChunkRule) where
   abbrev pub HoldsChunk : List ℕ → State → Call → Type 0
   HoldsChunk bank s (want budget) = Unit {0}
   HoldsChunk bank s (accept budget bytes) =
-      wanting chunk s.out budget ≡ Wanted.Chunk (length bytes) → bytes ≡ take (length bytes) (drop s.out.next bank)
+      wanting chunk s.out budget ≡ Ok (Wanted.Chunk (length bytes)) → bytes ≡ take (length bytes) (drop s.out.next bank)
 
   abbrev pub HoldsChunks : List ℕ → State → List Call → Type 0
   HoldsChunks bank s [] = Unit {0}
@@ -117,59 +114,27 @@ EveryChunkOfBank =
     HoldsChunks chunk bank s calls →
     joined (accepted chunk s calls) ≡ take (sum (map length (accepted chunk s calls))) (drop s.out.next bank)
 
--- ---- calls that are laid in slices: two numbers for each, its budget and the length of its chunk, or FFFF hex for wanting;
--- the chunks' bytes stand one behind the other, and a chunk has what is there
+-- ---- calls that are lent in a slice
 
-abbrev pub is_wanting : ℕ → Bool
-is_wanting len = eqb len 0xFFFF
+-- what is called, and the calls of a slice in their order
+abbrev pub call_of : LentCall → Call
+call_of (lent.TheVariants.Wanting budget) = want budget
+call_of (lent.TheVariants.Accepting budget chunk) = accept budget chunk.now
 
-abbrev pub call_with : ℕ → ℕ → List ℕ → Call
-call_with budget len bytes = cond (is_wanting len) (want budget) (accept budget bytes)
+abbrev pub calls_in : List LentCall → List Call
+calls_in calls = map call_of calls
 
-unfoldable pub calls_in : List ℕ → List ℕ → List Call
-calls_in [] bytes = []
-calls_in (budget ∷ []) bytes = []
-calls_in (budget ∷ len ∷ rest) bytes = call_with budget len (take len bytes) ∷ calls_in rest (cond (is_wanting len) bytes (drop len bytes))
-
--- a list of calls, laid so
-abbrev pub lay_numbers : List Call → List ℕ
-lay_numbers [] = []
-lay_numbers (want budget ∷ cs) = budget ∷ 0xFFFF ∷ lay_numbers cs
-lay_numbers (accept budget bytes ∷ cs) = budget ∷ length bytes ∷ lay_numbers cs
-
-abbrev pub lay_chunks : List Call → List ℕ
-lay_chunks [] = []
-lay_chunks (want budget ∷ cs) = lay_chunks cs
-lay_chunks (accept budget bytes ∷ cs) = bytes ++ lay_chunks cs
-
--- the slice of numbers has 16 bits for each: a budget is at most FFFF hex, and a chunk's length below it
+-- a budget has 16 bits
 abbrev pub Layable : List Call → Type 0
 Layable [] = Unit {0}
 Layable (want budget ∷ cs) = (budget ≤ 0xFFFF) × Layable cs
-Layable (accept budget bytes ∷ cs) = (budget ≤ 0xFFFF) × (length bytes < 0xFFFF) × Layable cs
+Layable (accept budget bytes ∷ cs) = (budget ≤ 0xFFFF) × Layable cs
 
--- Every such list of calls can be laid, in numbers of 16 bits, and is then the one that is made.
+-- Every such list of calls can be lent, with budgets of 16 bits, and is then the one that is made.
 pub record Laid (calls : List Call) : Type 0 where
-  pub fits : (i n : ℕ) → get_elem? (lay_numbers calls) i ≡ some n → n ≤ 0xFFFF
-  pub made : calls_in (lay_numbers calls) (lay_chunks calls) ≡ calls
+  pub lent : List LentCall
+  pub fits : Layable (calls_in lent)
+  pub made : calls_in lent ≡ calls
 
 abbrev pub EveryListLaid : Type 0
 EveryListLaid = (calls : List Call) → Layable calls → Laid calls
-
--- an answer in one number: done 0, a chunk its length, a read-out its next offset, a refusal its number and 512
-abbrev pub refused_number : Refusal → ℕ
-refused_number r = 512 + number_of r
-
-abbrev pub wanted_number : Wanted → ℕ
-wanted_number (Wanted.Chunk n) = n
-wanted_number Wanted.Done = 0
-wanted_number (Wanted.Err r) = refused_number r
-
-abbrev pub answer_number : Answer → ℕ
-answer_number (wanted w) = wanted_number w
-answer_number (handed (Ok r)) = r.next
-answer_number (handed (Err e)) = refused_number e
-
--- what one call of them answers, in a number, and the read-out behind it
-abbrev pub called_by : State → Call → Called
-called_by s c = record { out = (step chunk_len s c).out; answer = answer_number (answer chunk_len s c) }

@@ -1,8 +1,6 @@
 -- 01, "The read-out": "`chunk_len` (003, DiiA 252 §9.2.2)".
 -- Assumes nothing.
-use Rattle.std.specs.Prelude.{◌≡◌, cond, List, [], ◌∷◌, ℕ, ◌+◌, ◌≤◌, ◌<◌, min, max, eqb, leb, length, take, drop}
-use Rattle.std.proofs.Math.Option.{none, some}
-use Rattle.std.proofs.Math.ListN.{get_elem?}
+use Rattle.std.specs.Prelude.{◌≡◌, cond, List, [], ◌∷◌, ℕ, ◌+◌, ◌≤◌, ◌<◌, min, max, eqb, leb, length, take, drop, None, Some, slice_get}
 use Rattle.bus.specs.declared.layout.BankField.{BankField}
 use Rattle.bus.specs.Width.{bytes_of}
 use Rattle.bus.specs.Maps.{map_of, field_containing}
@@ -43,9 +41,9 @@ ChunkLenBounded = Bounded chunk_len
 
 -- Where no whole field can be taken, the chunk is the smaller of budget and remaining.
 pub record Smaller (bank o remaining budget : ℕ) : Type 0 where
-  pub inside : {x : BankField} → field_containing bank o ≡ some x → x.offset < o → chunk_len bank o remaining budget ≡ min budget remaining
-  pub past : field_containing bank o ≡ none → chunk_len bank o remaining budget ≡ min budget remaining
-  pub exceeds : {x : BankField} → field_containing bank o ≡ some x → x.offset ≡ o → remaining < bytes_of x.width
+  pub inside : {x : BankField} → field_containing bank o ≡ Some x → x.offset < o → chunk_len bank o remaining budget ≡ min budget remaining
+  pub past : field_containing bank o ≡ None → chunk_len bank o remaining budget ≡ min budget remaining
+  pub exceeds : {x : BankField} → field_containing bank o ≡ Some x → x.offset ≡ o → remaining < bytes_of x.width
       → chunk_len bank o remaining budget ≡ min budget remaining
 
 abbrev pub SmallerElsewhere : Type 0
@@ -69,5 +67,5 @@ pub record Longest (limit : ℕ) (fs : List BankField) (len : ℕ) : Type 0 wher
 -- From the start of a field that does not exceed what remains, a chunk is that run of the fields from there.
 abbrev pub LongestRun : Type 0
 LongestRun =
-    (bank remaining budget i : ℕ) (x : BankField) → get_elem? (map_of bank) i ≡ some x → bytes_of x.width ≤ remaining →
+    (bank remaining budget i : ℕ) (x : BankField) → slice_get (map_of bank) i ≡ Some x → bytes_of x.width ≤ remaining →
     Longest (min budget remaining) (drop i (map_of bank)) (chunk_len bank x.offset remaining budget)

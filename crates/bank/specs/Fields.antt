@@ -1,16 +1,12 @@
 -- 01, "May the field be written": the fields of bank 1, what they accept, and the layout that a header gives.
 -- Assumes nothing.
-use Rattle.std.specs.Prelude.{Bool, true, false, not, cond, ◌&&◌, ℕ, suc, ◌+◌, ◌-◌, ◌*◌, ◌^◌, eqb, leb, ltb, length}
-use mathlib.Core.List.{List, [], ◌∷◌, head?}
-use Rattle.std.proofs.Math.Option.{Option, none, some, map}
+use Rattle.std.specs.Prelude.{List, [], ◌∷◌, slice_get, Bool, true, false, not, cond, ◌&&◌, ℕ, suc, ◌+◌, ◌-◌, ◌*◌, ◌^◌, eqb, leb, ltb, length, None, Option, Some, option_map}
 use Rattle.bus.specs.declared.part251.LuminaireFormat.{LuminaireFormat}
 use Rattle.bus.specs.declared.part251.LuminaireFormat.TheVariants.{V3, V5}
-use Rattle.bus.specs.Options.{option_u8}
 use Rattle.bus.specs.Number.{number}
 use Rattle.bus.specs.Value.{bytes_at}
 use Rattle.bus.specs.Contiguous.{Contiguous}
 use Rattle.bus.specs.Part251.{TextField, colour, identification, distribution, oem_name_field, stocking_number, free_use_field}
-use Rattle.bank.specs.declared.OptionBool.{OptionBool}
 use Rattle.bank.specs.declared.luminaire_write.NumberRule.{NumberRule}
 use Rattle.bank.specs.declared.luminaire_write.NumberRule.TheVariants.{Year, Week, Power, MainsVoltage, LightOutput, Cri, Cct, LampCurrent}
 use Rattle.bank.specs.declared.luminaire_write.LuminaireTextField.{LuminaireTextField}
@@ -19,7 +15,6 @@ use Rattle.bank.specs.declared.luminaire_write.FieldKind.{FieldKind}
 use Rattle.bank.specs.declared.luminaire_write.FieldKind.TheVariants.{LayoutId, Number, Text}
 use Rattle.bank.specs.declared.luminaire_write.LuminaireField.{LuminaireField}
 use Rattle.bank.specs.declared.luminaire_write.Bank1Layout.{Bank1Layout}
-use Rattle.bank.specs.Options.{option_u16}
 use Rattle.bank.specs.Rules.{shows}
 
 -- "Each field is either the layout id, a number with its mask bit and its rule, or a text"
@@ -75,8 +70,8 @@ is_text which (Text t) = eqb (text_number t) (text_number which)
 
 -- "A field index is a place, 0 to 17, in `LUMINAIRE_FIELDS`": the first place of a text
 abbrev place_in : List LuminaireField → LuminaireTextField → Option ℕ
-place_in [] which = none
-place_in (f ∷ fs) which = cond (is_text which f.kind) (some 0) (map suc (place_in fs which))
+place_in [] which = None
+place_in (f ∷ fs) which = cond (is_text which f.kind) (Some 0) (option_map suc (place_in fs which))
 
 unfoldable pub place_of : LuminaireTextField → Option ℕ
 place_of which = place_in luminaire_fields which
@@ -114,8 +109,8 @@ printable (b ∷ bs) = is_printable b && printable bs
 
 -- 02, F-1: "the index of the first byte outside 20 to 7E hex", if there is one
 unfoldable pub first_not_printable : List ℕ → Option ℕ
-first_not_printable [] = none
-first_not_printable (b ∷ bs) = cond (is_printable b) (map suc (first_not_printable bs)) (some 0)
+first_not_printable [] = None
+first_not_printable (b ∷ bs) = cond (is_printable b) (option_map suc (first_not_printable bs)) (Some 0)
 
 abbrev pub is_text_kind : FieldKind → Bool
 is_text_kind LayoutId = false
@@ -128,16 +123,16 @@ accepts_text f bytes = is_text_kind f.kind && (leb (length bytes) f.len && print
 
 -- the content format id that a header holds, if it is wholly present
 unfoldable pub id_in : List ℕ → Option ℕ
-id_in header = map number (bytes_at 0x11 2 header)
+id_in header = option_map number (bytes_at 0x11 2 header)
 
 -- "A layout has three optional parts (implemented, content format id, last offset); `Bank1Layout::from_header` sets
 -- implemented to false for an empty header"
 abbrev pub from_header : List ℕ → Bank1Layout
 from_header header =
     record {
-      implemented = OptionBool.Some (not (eqb (length header) 0));
-      content_format_id = option_u16 (id_in header);
-      last_offset = option_u8 (head? header);
+      implemented = Some (not (eqb (length header) 0));
+      content_format_id = id_in header;
+      last_offset = slice_get header 0;
     }
 
 -- The 18 fields lie one behind the other, from the content format id to the last text.

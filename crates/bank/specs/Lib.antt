@@ -1,5 +1,4 @@
 -- The definitions that the contracts cite, in the order to read them. 01 is the scope document; its words stand in quotes.
-pub mod Options
 pub mod Refusal
 pub mod Rules
 pub mod Readings

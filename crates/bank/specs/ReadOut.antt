@@ -1,11 +1,10 @@
 -- 01, "The read-out": what starting, wanting and accepting answer, and what accepting leaves in the lent buffer. The
 -- chunk rule is a parameter; the calls use `chunk_len`.
 -- Assumes nothing.
-use Rattle.std.specs.Prelude.{◌≡◌, Bool, not, cond, ◌||◌, List, [], ◌∷◌, ◌++◌, ℕ, ◌+◌, ◌-◌, ◌≤◌, eqb, ltb, length, take, drop}
+use Rattle.std.specs.Prelude.{◌≡◌, Bool, not, cond, ◌||◌, List, [], ◌∷◌, ◌++◌, ℕ, ◌+◌, ◌-◌, ◌≤◌, eqb, ltb, length, take, drop, Err, Ok, Result}
 use Rattle.bank.specs.declared.refusal.Refusal.{Refusal}
 use Rattle.bank.specs.declared.refusal.Refusal.TheVariants.{BudgetZero, ReadOutInvalid, SliceTooShort, WrongChunkLength}
 use Rattle.bank.specs.declared.read_out.ReadOut.{ReadOut}
-use Rattle.bank.specs.declared.read_out.ResultReadOut.{ResultReadOut}
 use Rattle.bank.specs.declared.read_out.Wanted.{Wanted}
 use Rattle.bank.specs.Refusal.{Check, ◌when◌, checked}
 use Rattle.bank.specs.Chunk.{ChunkRule, Bounded}
@@ -35,8 +34,8 @@ abbrev pub short_buffer : ReadOut → List ℕ → Check
 short_buffer r buffer = SliceTooShort when ltb (length buffer) r.length
 
 -- "Starting: 12."
-abbrev pub starting : ℕ → ℕ → ResultReadOut
-starting bank len = checked (invalid (fresh bank len) ∷ []) ResultReadOut.Err (ResultReadOut.Ok (fresh bank len))
+abbrev pub starting : ℕ → ℕ → Result ReadOut Refusal
+starting bank len = checked (invalid (fresh bank len) ∷ []) Err (Ok (fresh bank len))
 
 -- "Wanting: 12, 11"
 abbrev pub want_checks : ReadOut → ℕ → List Check
@@ -52,10 +51,10 @@ module _ (chunk : ChunkRule) where
   wanted_len r budget = chunk r.bank r.next (r.length - r.next) budget
 
   -- "then done"
-  unfoldable pub wanting : ReadOut → ℕ → Wanted
+  unfoldable pub wanting : ReadOut → ℕ → Result Wanted Refusal
   wanting r budget =
-      checked (want_checks r budget) Wanted.Err
-      (cond (is_done r) Wanted.Done (Wanted.Chunk (wanted_len r budget)))
+      checked (want_checks r budget) Err
+      (Ok (cond (is_done r) Wanted.Done (Wanted.Chunk (wanted_len r budget))))
 
   -- 14: "chunk of another length than wanted"
   abbrev pub other_chunk : ReadOut → ℕ → List ℕ → Check
@@ -65,9 +64,9 @@ module _ (chunk : ChunkRule) where
   abbrev pub accept_checks : ReadOut → ℕ → List ℕ → List ℕ → List Check
   accept_checks r budget bytes buffer = want_checks r budget ++ short_buffer r buffer ∷ other_chunk r budget bytes ∷ []
 
-  unfoldable pub accepting : ReadOut → ℕ → List ℕ → List ℕ → ResultReadOut
+  unfoldable pub accepting : ReadOut → ℕ → List ℕ → List ℕ → Result ReadOut Refusal
   accepting r budget bytes buffer =
-      checked (accept_checks r budget bytes buffer) ResultReadOut.Err (ResultReadOut.Ok (advanced r (length bytes)))
+      checked (accept_checks r budget bytes buffer) Err (Ok (advanced r (length bytes)))
 
   -- the buffer behind an accepting call: a refused one leaves it as before
   unfoldable pub buffer_after : ReadOut → ℕ → List ℕ → List ℕ → List ℕ
@@ -88,11 +87,11 @@ pub record Acceptable (chunk : ChunkRule) (r : ReadOut) (budget : ℕ) (bytes bu
 
 -- A chunk is accepted, and its bytes stored, exactly where nothing is wrong; a refused one changes nothing.
 pub record TakenExactly (chunk : ChunkRule) (r : ReadOut) (budget : ℕ) (bytes buffer : List ℕ) : Type 0 where
-  pub accepted : Acceptable chunk r budget bytes buffer → accepting chunk r budget bytes buffer ≡ ResultReadOut.Ok (advanced r (length bytes))
+  pub accepted : Acceptable chunk r budget bytes buffer → accepting chunk r budget bytes buffer ≡ Ok (advanced r (length bytes))
   pub stored : Acceptable chunk r budget bytes buffer → buffer_after chunk r budget bytes buffer ≡ laid buffer r.next bytes
-  pub only : {s : ReadOut} → accepting chunk r budget bytes buffer ≡ ResultReadOut.Ok s → Acceptable chunk r budget bytes buffer
+  pub only : {s : ReadOut} → accepting chunk r budget bytes buffer ≡ Ok s → Acceptable chunk r budget bytes buffer
   -- "Each returns its number alone, with read-out and lent slices as before."
-  pub refused : {e : Refusal} → accepting chunk r budget bytes buffer ≡ ResultReadOut.Err e → buffer_after chunk r budget bytes buffer ≡ buffer
+  pub refused : {e : Refusal} → accepting chunk r budget bytes buffer ≡ Err e → buffer_after chunk r budget bytes buffer ≡ buffer
 
 abbrev pub EveryChunkTakenExactly : Type 0
 EveryChunkTakenExactly = (chunk : ChunkRule) (r : ReadOut) (budget : ℕ) (bytes buffer : List ℕ) → TakenExactly chunk r budget bytes buffer
@@ -100,11 +99,11 @@ EveryChunkTakenExactly = (chunk : ChunkRule) (r : ReadOut) (budget : ℕ) (bytes
 -- What "done" means, for a chunk rule that has the bounds.
 pub record DoneRight (chunk : ChunkRule) (r : ReadOut) (budget : ℕ) : Type 0 where
   -- "It says done exactly when next equals length."
-  pub says_done : r.next ≡ r.length → wanting chunk r budget ≡ Wanted.Done
-  pub only_then : wanting chunk r budget ≡ Wanted.Done → r.next ≡ r.length
+  pub says_done : r.next ≡ r.length → wanting chunk r budget ≡ Ok Wanted.Done
+  pub only_then : wanting chunk r budget ≡ Ok Wanted.Done → r.next ≡ r.length
   -- "when done, only an empty chunk is accepted and nothing changes"
-  pub only_empty : (bytes buffer : List ℕ) {s : ReadOut} → r.next ≡ r.length → accepting chunk r budget bytes buffer ≡ ResultReadOut.Ok s → bytes ≡ []
-  pub stays : (buffer : List ℕ) → r.next ≡ r.length → r.length ≤ length buffer → accepting chunk r budget [] buffer ≡ ResultReadOut.Ok r
+  pub only_empty : (bytes buffer : List ℕ) {s : ReadOut} → r.next ≡ r.length → accepting chunk r budget bytes buffer ≡ Ok s → bytes ≡ []
+  pub stays : (buffer : List ℕ) → r.next ≡ r.length → r.length ≤ length buffer → accepting chunk r budget [] buffer ≡ Ok r
   pub unchanged : (buffer : List ℕ) → buffer_after chunk r budget [] buffer ≡ buffer
 
 abbrev pub EveryReadOutDoneRight : Type 0

@@ -1,7 +1,6 @@
 -- 01, "Who can cause a refusal": "Each returns its number alone, with read-out and lent slices as before."; 02, F-1
 -- Assumes nothing.
-use Rattle.std.specs.Prelude.{◌≡◌, Bool, cond, List, [], ◌∷◌, ℕ}
-use Rattle.std.proofs.Math.Option.{Option, none, some}
+use Rattle.std.specs.Prelude.{◌≡◌, Bool, cond, List, [], ◌∷◌, ℕ, None, Option, Some, Result, Ok, Err}
 use Rattle.bank.specs.declared.refusal.Refusal.{Refusal}
 use Rattle.bank.specs.declared.refusal.Refusal.TheVariants.{FieldReadOnly, NotImplemented, NotRead, NotPart251, FieldNotInFormat, TooShort, NumberNotAccepted, FieldNotText, UnknownMaskBits, UnknownField, BudgetZero, ReadOutInvalid, SliceTooShort, WrongChunkLength, TextTooLong, ByteNotPrintable}
 
@@ -11,10 +10,10 @@ pub record Told : Type 0 where
   pub value : Option ℕ
 
 abbrev alone : ℕ → Told
-alone n = record { number = n; value = none }
+alone n = record { number = n; value = None }
 
 abbrev beside : ℕ → ℕ → Told
-beside value n = record { number = n; value = some value }
+beside value n = record { number = n; value = Some value }
 
 -- "1 field read-only"; "2 bank not implemented"; "3 last offset not read"; "4 id absent or not 3 to 5";
 -- "5 not in format"; "6 field ends past the last offset"; "7 number not accepted";
@@ -50,7 +49,7 @@ value_of r = (told_by r).value
 
 -- A number tells its cause: no two causes share one, and one that carries a value is told by both.
 pub record NumberTells (r s : Refusal) : Type 0 where
-  pub alone : value_of r ≡ none → r ≡ s
+  pub alone : value_of r ≡ None → r ≡ s
   pub with_value : value_of r ≡ value_of s → r ≡ s
 
 abbrev pub NumberTellsCause : Type 0
@@ -67,13 +66,17 @@ r when b = record { refusal = r; applies = b }
 
 -- checks stand in the order in which they are made: the first that applies counts
 unfoldable pub first_of : List Check → Option Refusal
-first_of [] = none
-first_of (c ∷ cs) = cond c.applies (some c.refusal) (first_of cs)
+first_of [] = None
+first_of (c ∷ cs) = cond c.applies (Some c.refusal) (first_of cs)
 
-abbrev unless_refused : {A : Type 0} → Option Refusal → (Refusal → A) → A → A
-unless_refused none refused answer = answer
-unless_refused (some r) refused answer = refused r
+abbrev pub unless_refused : {A : Type 0} → Option Refusal → (Refusal → A) → A → A
+unless_refused None refused answer = answer
+unless_refused (Some r) refused answer = refused r
 
 -- what a call answers, or leaves in a lent slice: what its refusal gives, and where no check applies, the answer
 abbrev pub checked : {A : Type 0} → List Check → (Refusal → A) → A → A
 checked cs refused answer = unless_refused (first_of cs) refused answer
+
+-- what a call answers that only tests
+abbrev pub tested : List Check → Result (Unit {0}) Refusal
+tested cs = checked cs Err (Ok tt)

@@ -1,7 +1,6 @@
 -- 01, "May the field be written": "Rules (IEC 62386-251)".
 -- Assumes nothing.
-use Rattle.std.specs.Prelude.{Bool, not, cond, ◌&&◌, ◌||◌, ℕ, eqb, leb}
-use Rattle.std.proofs.Math.Option.{Option, none, some}
+use Rattle.std.specs.Prelude.{Bool, not, cond, ◌&&◌, ◌||◌, ℕ, eqb, leb, None, Option, Some}
 use Rattle.bus.specs.declared.part251.LuminaireFormat.{LuminaireFormat}
 use Rattle.bus.specs.declared.part251.LuminaireFormat.TheVariants.{V3, V4}
 use Rattle.bus.specs.Part251.{from_format}
@@ -23,4 +22,4 @@ shows LampCurrent v n = not (eqb n 65535)
 
 -- a raw number that is shown is shown as it is: in format 3, and so in every format
 abbrev pub shown : NumberRule → ℕ → Option ℕ
-shown r n = cond (shows r V3 n) (some n) none
+shown r n = cond (shows r V3 n) (Some n) None

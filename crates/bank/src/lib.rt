@@ -11,33 +11,9 @@ pub mod refusal;
 
 pub use layout::chunk_len;
 pub use luminaire_write::{
-    Bank1Layout, FieldKind, LuminaireField, LuminaireTextField, NumberRule, OptionLuminaireField,
-    ResultLuminaireFormat, check_writable, luminaire_fields,
+    Bank1Layout, FieldKind, LuminaireField, LuminaireTextField, NumberRule, check_writable,
+    luminaire_fields,
 };
 pub use part251::{CctReading, LightDistributionType};
-pub use read_out::{ReadOut, ResultReadOut, Wanted};
-pub use refusal::{OptionRefusal, Refusal};
-
-#[derive(Clone, Copy)]
-pub enum OptionBool {
-    Some(bool),
-    None,
-}
-
-#[derive(Clone, Copy)]
-pub enum OptionU16 {
-    Some(u16),
-    None,
-}
-
-#[derive(Clone, Copy)]
-pub enum OptionU32 {
-    Some(u32),
-    None,
-}
-
-#[derive(Clone, Copy)]
-pub enum OptionUsize {
-    Some(usize),
-    None,
-}
+pub use read_out::{ReadOut, Wanted};
+pub use refusal::Refusal;

@@ -1,18 +1,12 @@
 // The fields of bank 1 and whether they may be written (luminaire_write.rs, IEC 62386-251, DiiA 251).
-ghost use Rattle.std.specs.Prelude.{◌≡◌, ◌&&◌, leb, length};
-ghost use mathlib.Core.List.{head?};
-ghost use Rattle.std.proofs.Math.Option.{get_or};
-ghost use Rattle.std.proofs.Math.ListN.{get_elem?};
+ghost use Rattle.std.specs.Prelude.{◌≡◌, slice_get};
 ghost use Rattle.bus.specs.Part251.{from_format};
-ghost use Rattle.bus.specs.Options.{option_u8, option_luminaire_format};
-ghost use Rattle.bank.specs.Options.{option_u16, option_usize, option_refusal, option_luminaire_field};
-ghost use Rattle.bank.specs.Refusal.{first_of};
+ghost use Rattle.bank.specs.Refusal.{tested};
 ghost use Rattle.bank.specs.Rules.{shows};
 ghost use Rattle.bank.specs.Fields.{luminaire_fields, place_of, last_offset_of, ends_by, fits, accepts_number, is_printable, first_not_printable, is_text_kind, accepts_text, id_in, from_header};
 ghost use Rattle.bank.specs.Writable.{read_only, missing, format_in, check_writable, text_checks};
 
-use crate::refusal::{OptionRefusal, Refusal};
-use crate::{OptionBool, OptionU16, OptionUsize};
+use crate::refusal::Refusal;
 use bus::part251::{
     CCT_OFFSET, CONTENT_FORMAT_ID_OFFSET, CRI_OFFSET, CUSTOMER_STOCKING_NUMBER, FREE_USE,
     LAMP_CURRENT_OFFSET, LIGHT_DISTRIBUTION, LIGHT_DISTRIBUTION_TYPE_OFFSET, LUMINAIRE_COLOUR,
@@ -20,7 +14,7 @@ use bus::part251::{
     NOMINAL_MAX_AC_VOLTAGE_OFFSET, NOMINAL_MIN_AC_VOLTAGE_OFFSET, OEM_NAME,
     POWER_AT_MINIMUM_OFFSET, WEEK_OFFSET, YEAR_OFFSET,
 };
-use bus::{LuminaireFormat, OptionLuminaireFormat, OptionU8, number_of};
+use bus::{LuminaireFormat, number_of};
 
 #[derive(Clone, Copy)]
 pub enum NumberRule {
@@ -42,9 +36,9 @@ impl NumberRule {
     {
         match self {
             NumberRule::Year => raw <= 99,
-            NumberRule::Week => is_between(1, raw, 53),
+            NumberRule::Week => matches!(raw, 1..=53),
             NumberRule::Power => raw != 0xFFFF,
-            NumberRule::MainsVoltage => is_between(90, raw, 480),
+            NumberRule::MainsVoltage => matches!(raw, 90..=480),
             NumberRule::LightOutput => raw != 0xFF_FFFF,
             NumberRule::Cri => raw <= 100,
             NumberRule::Cct => raw <= 17_000,
@@ -54,25 +48,12 @@ impl NumberRule {
     }
 }
 
-fn is_between(first: u64, n: u64, last: u64) -> bool
-    ensures { result ≡ (leb first n && leb n last) }
-{
-    first <= n && n <= last
-}
-
 fn is_distribution_type(raw: u64, format: LuminaireFormat) -> bool
     ensures { result ≡ shows NumberRule.LightDistributionType format raw }
 {
-    if raw <= 5 {
-        return true;
-    }
-    if format.content_format_id() < 4 {
-        return false;
-    }
     match raw {
-        6 => true,
-        253 => true,
-        254 => true,
+        0..=5 => true,
+        6 | 253 | 254 => 4 <= format.content_format_id(),
         _ => false,
     }
 }
@@ -100,12 +81,6 @@ pub struct LuminaireField {
     pub len: u8,
     pub since: LuminaireFormat,
     pub kind: FieldKind,
-}
-
-#[derive(Clone, Copy)]
-pub enum OptionLuminaireField {
-    Some(LuminaireField),
-    None,
 }
 
 // DiiA 251 §9.2.5
@@ -254,64 +229,52 @@ pub const LUMINAIRE_FIELDS: [LuminaireField; 18] = [
     },
 ];
 
-// The table by value, for a loop over it: an index into a constant would copy the table at each turn.
-pub fn luminaire_fields() -> [LuminaireField; 18]
-    ensures { result ≡ luminaire_fields }
+// The table, for whoever reads the contracts: its content is a promise.
+pub fn luminaire_fields() -> &'static [LuminaireField]
+    ensures { result.now ≡ luminaire_fields }
 {
-    LUMINAIRE_FIELDS
+    &LUMINAIRE_FIELDS
 }
 
 impl LuminaireField {
     // The field at a place in the table.
-    pub fn of_index(index: usize) -> OptionLuminaireField
-        ensures { result ≡ option_luminaire_field (get_elem? luminaire_fields index) }
+    pub fn of_index(index: usize) -> Option<LuminaireField>
+        ensures { result ≡ slice_get luminaire_fields index }
     {
-        let fields = luminaire_fields();
-        if index < 18 {
-            OptionLuminaireField::Some(fields[index])
-        } else {
-            OptionLuminaireField::None
-        }
+        luminaire_fields().get(index).copied()
     }
 
     // The place of a text in the table.
-    pub fn of_text(which: LuminaireTextField) -> OptionUsize
-        ensures { result ≡ option_usize (place_of which) }
+    pub fn of_text(which: LuminaireTextField) -> Option<usize>
+        ensures { result ≡ place_of which }
     {
         match which {
-            LuminaireTextField::LuminaireColour => OptionUsize::Some(11),
-            LuminaireTextField::LuminaireIdentification => OptionUsize::Some(12),
-            LuminaireTextField::LightDistribution => OptionUsize::Some(13),
-            LuminaireTextField::OemName => OptionUsize::Some(14),
-            LuminaireTextField::CustomerStockingNumber => OptionUsize::Some(15),
-            LuminaireTextField::FreeUse => OptionUsize::Some(17),
+            LuminaireTextField::LuminaireColour => Some(11),
+            LuminaireTextField::LuminaireIdentification => Some(12),
+            LuminaireTextField::LightDistribution => Some(13),
+            LuminaireTextField::OemName => Some(14),
+            LuminaireTextField::CustomerStockingNumber => Some(15),
+            LuminaireTextField::FreeUse => Some(17),
         }
     }
 
     fn is_layout_id(self) -> bool
         ensures { result ≡ read_only self.kind }
     {
-        let kind = self.kind;
-        match kind {
-            FieldKind::LayoutId => true,
-            FieldKind::Number { patch: _, rule: _ } => false,
-            FieldKind::Text(_) => false,
-        }
+        matches!(self.kind, FieldKind::LayoutId)
     }
 
     // In sixteen bits, since a field that is not of the table may end past 255.
     pub fn last_offset(self) -> u16
         ensures { result ≡ last_offset_of self }
     {
-        let end = self.offset as u16 + self.len as u16;
-        if end == 0 { 0 } else { end - 1 }
+        (self.offset as u16 + self.len as u16).saturating_sub(1)
     }
 
     pub fn in_format(self, format: LuminaireFormat) -> bool
         ensures { result ≡ from_format self.since format }
     {
-        let since = self.since;
-        since.content_format_id() <= format.content_format_id()
+        self.since.content_format_id() <= format.content_format_id()
     }
 
     pub fn ends_by(self, last_offset: u8) -> bool
@@ -323,55 +286,41 @@ impl LuminaireField {
     pub fn accepts_number(self, value: u64, format: LuminaireFormat) -> bool
         ensures { result ≡ accepts_number self format value }
     {
-        let kind = self.kind;
-        match kind {
-            FieldKind::LayoutId => false,
-            FieldKind::Number { patch: _, rule } => {
-                if !rule.shows_back(value, format) {
-                    return false;
-                }
-                fits(value, self.len)
+        match self.kind {
+            FieldKind::Number { rule, .. } => {
+                rule.shows_back(value, format) && fits(value, self.len)
             }
-            FieldKind::Text(_) => false,
+            FieldKind::LayoutId | FieldKind::Text(_) => false,
         }
     }
 
     fn is_text(self) -> bool
         ensures { result ≡ is_text_kind self.kind }
     {
-        let kind = self.kind;
-        match kind {
-            FieldKind::LayoutId => false,
-            FieldKind::Number { patch: _, rule: _ } => false,
-            FieldKind::Text(_) => true,
-        }
+        matches!(self.kind, FieldKind::Text(_))
     }
 
-    // Why the field does not accept a text.
-    pub fn text_refusal(self, text: &[u8]) -> OptionRefusal
-        ensures { result ≡ option_refusal (first_of (text_checks self text.now)) }
+    // Whether the field accepts a text, and why not.
+    pub fn check_text(self, text: &[u8]) -> Result<(), Refusal>
+        ensures { result ≡ tested (text_checks self text.now) }
     {
         if !self.is_text() {
-            return OptionRefusal::Some(Refusal::FieldNotText);
+            return Err(Refusal::FieldNotText);
         }
         if (self.len as usize) < text.len() {
-            return OptionRefusal::Some(Refusal::TextTooLong);
+            return Err(Refusal::TextTooLong);
         }
-        let index = first_not_printable(text);
-        if index < text.len() {
-            return OptionRefusal::Some(Refusal::ByteNotPrintable(index as u8));
+        match first_not_printable(text) {
+            Some(index) => Err(Refusal::ByteNotPrintable(index as u8)),
+            None => Ok(()),
         }
-        OptionRefusal::None
     }
 
     // DiiA 251 §9.2.5
     pub fn accepts_text(self, text: &[u8]) -> bool
         ensures { result ≡ accepts_text self text.now }
     {
-        match self.text_refusal(text) {
-            OptionRefusal::Some(_) => false,
-            OptionRefusal::None => true,
-        }
+        self.check_text(text).is_ok()
     }
 }
 
@@ -379,39 +328,33 @@ impl LuminaireField {
 fn fits(value: u64, len: u8) -> bool
     ensures { result ≡ fits len value }
 {
-    if 8 <= len {
-        return true;
-    }
-    value < 1 << (8 * len)
+    8 <= len || value < 1 << (8 * len)
 }
 
 fn is_printable(byte: u8) -> bool
     ensures { result ≡ is_printable byte }
 {
-    is_between(b' ' as u64, byte as u64, b'~' as u64)
+    matches!(byte, b' '..=b'~')
 }
 
-// The index of the first byte that is not printable, or the text's length where all are: an option would cost an
-// instruction a byte where the scan is inlined.
-fn first_not_printable(text: &[u8]) -> usize
-    ensures { result ≡ get_or (first_not_printable text.now) (length text.now) }
+// The index of the first byte that is not printable.
+fn first_not_printable(text: &[u8]) -> Option<usize>
+    ensures { result ≡ first_not_printable text.now }
 {
-    let mut i = 0;
-    while i < text.len() {
-        if !is_printable(text[i]) {
-            return i;
+    for (i, byte) in text.iter().enumerate() {
+        if !is_printable(*byte) {
+            return Some(i);
         }
-        i += 1;
     }
-    text.len()
+    None
 }
 
 // What a header of bank 1 tells, as far as it was read.
 #[derive(Clone, Copy)]
 pub struct Bank1Layout {
-    pub implemented: OptionBool,
-    pub content_format_id: OptionU16,
-    pub last_offset: OptionU8,
+    pub implemented: Option<bool>,
+    pub content_format_id: Option<u16>,
+    pub last_offset: Option<u8>,
 }
 
 impl Bank1Layout {
@@ -420,9 +363,9 @@ impl Bank1Layout {
         ensures { result ≡ from_header header.now }
     {
         Bank1Layout {
-            implemented: OptionBool::Some(header.len() != 0),
+            implemented: Some(!header.is_empty()),
             content_format_id: id_in(header),
-            last_offset: first_byte(header),
+            last_offset: header.first().copied(),
         }
     }
 
@@ -430,71 +373,44 @@ impl Bank1Layout {
     fn is_missing(self) -> bool
         ensures { result ≡ missing self.implemented }
     {
-        let implemented = self.implemented;
-        match implemented {
-            OptionBool::Some(there) => !there,
-            OptionBool::None => false,
-        }
+        matches!(self.implemented, Some(false))
     }
 
-    fn format(self) -> OptionLuminaireFormat
-        ensures { result ≡ option_luminaire_format (format_in self.content_format_id) }
+    fn format(self) -> Option<LuminaireFormat>
+        ensures { result ≡ format_in self.content_format_id }
     {
-        let content_format_id = self.content_format_id;
-        match content_format_id {
-            OptionU16::Some(id) => LuminaireFormat::from_content_format_id(id),
-            OptionU16::None => OptionLuminaireFormat::None,
-        }
+        LuminaireFormat::from_content_format_id(self.content_format_id?)
     }
 }
 
-fn id_in(header: &[u8]) -> OptionU16
-    ensures { result ≡ option_u16 (id_in header.now) }
+fn id_in(header: &[u8]) -> Option<u16>
+    ensures { result ≡ id_in header.now }
 {
     let at = CONTENT_FORMAT_ID_OFFSET as usize;
-    if header.len() < at + 2 {
-        return OptionU16::None;
-    }
-    OptionU16::Some(number_of(&header[at..at + 2]) as u16)
-}
-
-fn first_byte(header: &[u8]) -> OptionU8
-    ensures { result ≡ option_u8 (head? header.now) }
-{
-    if header.len() == 0 {
-        return OptionU8::None;
-    }
-    OptionU8::Some(header[0])
-}
-
-#[derive(Clone, Copy)]
-pub enum ResultLuminaireFormat {
-    Ok(LuminaireFormat),
-    Err(Refusal),
+    let id = header.get(at..at + 2)?;
+    Some(number_of(id) as u16)
 }
 
 // Whether a field may be written in a bank of this layout, and then the bank's format.
-pub fn check_writable(layout: Bank1Layout, field: LuminaireField) -> ResultLuminaireFormat
+pub fn check_writable(
+    layout: Bank1Layout,
+    field: LuminaireField,
+) -> Result<LuminaireFormat, Refusal>
     ensures { result ≡ check_writable layout field }
 {
     if field.is_layout_id() {
-        return ResultLuminaireFormat::Err(Refusal::FieldReadOnly);
+        return Err(Refusal::FieldReadOnly);
     }
     if layout.is_missing() {
-        return ResultLuminaireFormat::Err(Refusal::NotImplemented);
+        return Err(Refusal::NotImplemented);
     }
-    let last_offset = layout.last_offset;
-    let OptionU8::Some(last) = last_offset else {
-        return ResultLuminaireFormat::Err(Refusal::NotRead);
-    };
-    let OptionLuminaireFormat::Some(format) = layout.format() else {
-        return ResultLuminaireFormat::Err(Refusal::NotPart251);
-    };
+    let last_offset = layout.last_offset.ok_or(Refusal::NotRead)?;
+    let format = layout.format().ok_or(Refusal::NotPart251)?;
     if !field.in_format(format) {
-        return ResultLuminaireFormat::Err(Refusal::FieldNotInFormat);
+        return Err(Refusal::FieldNotInFormat);
     }
-    if !field.ends_by(last) {
-        return ResultLuminaireFormat::Err(Refusal::TooShort);
+    if !field.ends_by(last_offset) {
+        return Err(Refusal::TooShort);
     }
-    ResultLuminaireFormat::Ok(format)
+    Ok(format)
 }

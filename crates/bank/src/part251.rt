@@ -1,73 +1,53 @@
 // What the numbers of bank 1 show (part251.rs, IEC 62386-251): the rules stand in luminaire_write.
 ghost use Rattle.std.specs.Prelude.{◌≡◌};
-ghost use Rattle.bus.specs.Options.{option_u8};
-ghost use Rattle.bank.specs.Options.{option_u16, option_u32};
-ghost use Rattle.bank.specs.Rules.{shown};
+ghost use Rattle.bus.specs.declared.part251.LuminaireFormat.TheVariants.{V3};
+ghost use Rattle.bank.specs.Rules.{shows, shown};
 ghost use Rattle.bank.specs.Readings.{cct_of, type_of};
 
 use crate::luminaire_write::NumberRule;
-use crate::{OptionU16, OptionU32};
-use bus::{LuminaireFormat, OptionU8};
+use bus::LuminaireFormat;
 
-// A raw number, where format 3 shows it. Later formats changed only the rule of the distribution type.
-fn shown_u8(rule: NumberRule, raw: u8) -> OptionU8
-    ensures { result ≡ option_u8 (shown rule raw) }
+// Whether format 3 shows a raw number. Later formats changed only the rule of the distribution type.
+fn is_shown(rule: NumberRule, raw: u64) -> bool
+    ensures { result ≡ shows rule V3 raw }
 {
-    if rule.shows_back(raw as u64, LuminaireFormat::V3) {
-        OptionU8::Some(raw)
-    } else {
-        OptionU8::None
-    }
+    rule.shows_back(raw, LuminaireFormat::V3)
 }
 
-fn shown_u16(rule: NumberRule, raw: u16) -> OptionU16
-    ensures { result ≡ option_u16 (shown rule raw) }
+pub fn year(raw: u8) -> Option<u8>
+    ensures { result ≡ shown NumberRule.Year raw }
 {
-    if rule.shows_back(raw as u64, LuminaireFormat::V3) {
-        OptionU16::Some(raw)
-    } else {
-        OptionU16::None
-    }
+    is_shown(NumberRule::Year, raw.into()).then_some(raw)
 }
 
-pub fn year(raw: u8) -> OptionU8
-    ensures { result ≡ option_u8 (shown NumberRule.Year raw) }
+pub fn week(raw: u8) -> Option<u8>
+    ensures { result ≡ shown NumberRule.Week raw }
 {
-    shown_u8(NumberRule::Year, raw)
+    is_shown(NumberRule::Week, raw.into()).then_some(raw)
 }
 
-pub fn week(raw: u8) -> OptionU8
-    ensures { result ≡ option_u8 (shown NumberRule.Week raw) }
+pub fn power_w(raw: u16) -> Option<u16>
+    ensures { result ≡ shown NumberRule.Power raw }
 {
-    shown_u8(NumberRule::Week, raw)
+    is_shown(NumberRule::Power, raw.into()).then_some(raw)
 }
 
-pub fn power_w(raw: u16) -> OptionU16
-    ensures { result ≡ option_u16 (shown NumberRule.Power raw) }
+pub fn mains_voltage_v(raw: u16) -> Option<u16>
+    ensures { result ≡ shown NumberRule.MainsVoltage raw }
 {
-    shown_u16(NumberRule::Power, raw)
+    is_shown(NumberRule::MainsVoltage, raw.into()).then_some(raw)
 }
 
-pub fn mains_voltage_v(raw: u16) -> OptionU16
-    ensures { result ≡ option_u16 (shown NumberRule.MainsVoltage raw) }
+pub fn light_output_lm(raw: u32) -> Option<u32>
+    ensures { result ≡ shown NumberRule.LightOutput raw }
 {
-    shown_u16(NumberRule::MainsVoltage, raw)
+    is_shown(NumberRule::LightOutput, raw.into()).then_some(raw)
 }
 
-pub fn light_output_lm(raw: u32) -> OptionU32
-    ensures { result ≡ option_u32 (shown NumberRule.LightOutput raw) }
+pub fn cri(raw: u8) -> Option<u8>
+    ensures { result ≡ shown NumberRule.Cri raw }
 {
-    if NumberRule::LightOutput.shows_back(raw as u64, LuminaireFormat::V3) {
-        OptionU32::Some(raw)
-    } else {
-        OptionU32::None
-    }
-}
-
-pub fn cri(raw: u8) -> OptionU8
-    ensures { result ≡ option_u8 (shown NumberRule.Cri raw) }
-{
-    shown_u8(NumberRule::Cri, raw)
+    is_shown(NumberRule::Cri, raw.into()).then_some(raw)
 }
 
 #[derive(Clone, Copy)]
@@ -80,7 +60,7 @@ pub enum CctReading {
 pub fn cct(raw: u16) -> CctReading
     ensures { result ≡ cct_of raw }
 {
-    if NumberRule::Cct.shows_back(raw as u64, LuminaireFormat::V3) {
+    if is_shown(NumberRule::Cct, raw.into()) {
         CctReading::Kelvin(raw)
     } else if raw == u16::MAX - 1 {
         CctReading::Part209Implemented
@@ -102,7 +82,7 @@ pub enum LightDistributionType {
 pub fn light_distribution_type(raw: u8, format: LuminaireFormat) -> LightDistributionType
     ensures { result ≡ type_of format raw }
 {
-    if NumberRule::LightDistributionType.shows_back(raw as u64, format) {
+    if NumberRule::LightDistributionType.shows_back(raw.into(), format) {
         match raw {
             0 => LightDistributionType::NotSpecified,
             253 => LightDistributionType::EmergencyLuminaire,
@@ -116,8 +96,8 @@ pub fn light_distribution_type(raw: u8, format: LuminaireFormat) -> LightDistrib
     }
 }
 
-pub fn lamp_current_ma(raw: u16) -> OptionU16
-    ensures { result ≡ option_u16 (shown NumberRule.LampCurrent raw) }
+pub fn lamp_current_ma(raw: u16) -> Option<u16>
+    ensures { result ≡ shown NumberRule.LampCurrent raw }
 {
-    shown_u16(NumberRule::LampCurrent, raw)
+    is_shown(NumberRule::LampCurrent, raw.into()).then_some(raw)
 }

@@ -1,9 +1,6 @@
 // Why a call is refused: each cause has its number, and one carries a value beside it.
 ghost use Rattle.std.specs.Prelude.{◌≡◌};
-ghost use Rattle.bus.specs.Options.{option_u8};
 ghost use Rattle.bank.specs.Refusal.{number_of, value_of};
-
-use bus::OptionU8;
 
 #[derive(Clone, Copy)]
 pub enum Refusal {
@@ -24,12 +21,6 @@ pub enum Refusal {
     TextTooLong,
     // The index of the first such byte: below 255, since length is tested first and no field is longer.
     ByteNotPrintable(u8),
-}
-
-#[derive(Clone, Copy)]
-pub enum OptionRefusal {
-    Some(Refusal),
-    None,
 }
 
 impl Refusal {
@@ -56,26 +47,12 @@ impl Refusal {
         }
     }
 
-    pub fn value(self) -> OptionU8
-        ensures { result ≡ option_u8 (value_of self) }
+    pub fn value(self) -> Option<u8>
+        ensures { result ≡ value_of self }
     {
         match self {
-            Refusal::FieldReadOnly => OptionU8::None,
-            Refusal::NotImplemented => OptionU8::None,
-            Refusal::NotRead => OptionU8::None,
-            Refusal::NotPart251 => OptionU8::None,
-            Refusal::FieldNotInFormat => OptionU8::None,
-            Refusal::TooShort => OptionU8::None,
-            Refusal::NumberNotAccepted => OptionU8::None,
-            Refusal::FieldNotText => OptionU8::None,
-            Refusal::UnknownMaskBits => OptionU8::None,
-            Refusal::UnknownField => OptionU8::None,
-            Refusal::BudgetZero => OptionU8::None,
-            Refusal::ReadOutInvalid => OptionU8::None,
-            Refusal::SliceTooShort => OptionU8::None,
-            Refusal::WrongChunkLength => OptionU8::None,
-            Refusal::TextTooLong => OptionU8::None,
-            Refusal::ByteNotPrintable(index) => OptionU8::Some(index),
+            Refusal::ByteNotPrintable(index) => Some(index),
+            _ => None,
         }
     }
 }

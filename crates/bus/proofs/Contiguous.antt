@@ -1,14 +1,13 @@
 -- Laws of parts that lie one behind the other: one test over the whole list gives the rule at each of its entries.
 -- Assumes nothing.
+use Rattle.std.specs.Prelude.{None, Some, slice_get}
 use mathlib.Core.Path.{◌≡◌, sym, ap, ◌∙◌}
 use mathlib.Core.Bool.{Bool, ◌&&◌}
 use mathlib.Core.List.{List, [], ◌∷◌}
-use mathlib.Core.Option.{none, some}
 use Prim.Native.Nat.{ℕ, zero, suc, ◌≤◌}
 use native.Mathlib.Numerals.{add-one}
 use native.Mathlib.Omega.{arith}
 use lib.Dec.{T, eqb, eqb→eq}
-use lib.ListN.{get_elem?}
 use Rattle.bus.specs.Contiguous.{Contiguous}
 use Rattle.bus.proofs.Tests.{and_left, and_right}
 use Rattle.bus.proofs.Lists.{no_element}
@@ -25,20 +24,20 @@ module _ {A : Type 0} (start behind : A → ℕ) (end : ℕ) where
   pub later : (o : ℕ) (x : A) (xs : List A) → T (runs start behind end o (x ∷ xs)) → T (runs start behind end (behind x) xs)
   later o x xs t = and_right (eqb (start x) o) (runs start behind end (behind x) xs) t
 
-  starts : {x : A} (o : ℕ) (xs : List A) → T (runs start behind end o xs) → get_elem? xs zero ≡ some x → start x ≡ o
+  starts : {x : A} (o : ℕ) (xs : List A) → T (runs start behind end o xs) → slice_get xs zero ≡ Some x → start x ≡ o
   starts o [] t e = no_element e
   starts {x} o (y ∷ ys) t e =
       let same : x ≡ y = cc in
       ap start same ∙ here o y ys t
 
-  follows : {x y : A} (o : ℕ) (xs : List A) → T (runs start behind end o xs) → (i : ℕ) → get_elem? xs i ≡ some x → get_elem? xs (suc i) ≡ some y → start y ≡ behind x
+  follows : {x y : A} (o : ℕ) (xs : List A) → T (runs start behind end o xs) → (i : ℕ) → slice_get xs i ≡ Some x → slice_get xs (suc i) ≡ Some y → start y ≡ behind x
   follows o [] t i e f = no_element e
   follows {x} o (z ∷ zs) t zero e f =
       let same : z ≡ x = cc in
       starts (behind z) zs (later o z zs t) f ∙ ap behind same
   follows o (z ∷ zs) t (suc i) e f = follows (behind z) zs (later o z zs t) i e f
 
-  ends : {x : A} (o : ℕ) (xs : List A) → T (runs start behind end o xs) → (i : ℕ) → get_elem? xs i ≡ some x → get_elem? xs (suc i) ≡ none → behind x ≡ end
+  ends : {x : A} (o : ℕ) (xs : List A) → T (runs start behind end o xs) → (i : ℕ) → slice_get xs i ≡ Some x → slice_get xs (suc i) ≡ None → behind x ≡ end
   ends o [] t i e f = no_element e
   ends {x} o (z ∷ []) t zero e f =
       let same : x ≡ z = cc in

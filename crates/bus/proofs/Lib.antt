@@ -1,6 +1,5 @@
 pub mod Tests
 pub mod Lists
-pub mod Options
 pub mod Contiguous
 pub mod Number
 pub mod Width

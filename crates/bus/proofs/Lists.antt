@@ -1,16 +1,17 @@
 -- Laws of lists: an element and a search of the first n elements, and a list that takes the place of another's head.
 -- Assumes nothing.
+use Rattle.std.specs.Prelude.{None, Some, slice_get}
 use mathlib.Core.Path.{◌≡◌, refl, sym, ap, ◌∙◌}
 use mathlib.Core.Bool.{Bool, true, false}
 use mathlib.Core.List.{List, [], ◌∷◌, ◌++◌, append-nil}
-use mathlib.Core.Option.{none, some}
 use Prim.Native.Nat.{ℕ, zero, suc, ◌+◌, ◌≤◌, ◌<◌}
 use native.Mathlib.Nat.{le_of_suc-le-suc, not-suc-le-zero, le_of_lt}
 use native.Mathlib.Numerals.{add-one}
 use native.Mathlib.Omega.{arith}
+use mathlib.Core.Logic.{◌⊎◌, ⊎_elim}
 use borrow.Author.Tests.{ltb-true, ltb-false}
 use lib.Dec.{ltb}
-use lib.ListN.{length, get_or, get_elem?, set, take, drop, length-take, length-drop, length-append, drop_of_length-le}
+use lib.ListN.{length, get_or, set, take, drop, length-take, length-append, drop_of_length-le}
 use lib.Seq.{take_all, take-append-le, take-nil, take-suc, drop-cons, set_at, set_out, sets, append_snoc, length-take-le, get_or-take}
 use Rattle.bus.specs.Value.{laid_into}
 use Rattle.bus.specs.Maps.{first_with}
@@ -18,31 +19,50 @@ use Rattle.bus.proofs.Tests.{by_test}
 
 module _ {A : Type 0} where
   -- where there is none, there is no element
-  pub no_element : {B : Type 0} {x : A} → none ≡ some x → B
+  pub no_element : {B : Type 0} {x : A} → None ≡ Some x → B
   no_element e =
       let z : ◌≡◌ {A = ℕ} 0 1 = cc in
       let y : ⊥ = omega arith in
       absurd y
 
+  pub no_elements : (xs : List A) → length xs ≡ 0 → xs ≡ []
+  no_elements [] e = refl
+  no_elements (x ∷ xs) e =
+      let z : ⊥ = omega arith in
+      absurd z
+
   -- an element of a list, and none behind its last
-  pub element_in : (xs : List A) (i : ℕ) (d : A) → i < length xs → some (get_or xs i d) ≡ get_elem? xs i
+  pub element_in : (xs : List A) (i : ℕ) (d : A) → i < length xs → Some (get_or xs i d) ≡ slice_get xs i
   element_in [] i d h = absurd (not-suc-le-zero h)
   element_in (x ∷ xs) zero d h = refl
   element_in (x ∷ xs) (suc i) d h = element_in xs i d (le_of_suc-le-suc h)
 
-  pub element_out : (xs : List A) (i : ℕ) → length xs ≤ i → none ≡ get_elem? xs i
-  element_out [] i h = refl
-  element_out (x ∷ xs) zero h = absurd (not-suc-le-zero h)
-  element_out (x ∷ xs) (suc i) h = element_out xs i (le_of_suc-le-suc h)
+  -- a search there, from element i on
+  module _ (p : A → Bool) (xs : List A) (i : ℕ) (d : A) where
+    pub found : i < length xs → p (get_or xs i d) ≡ true → first_with p (drop i xs) ≡ Some (get_or xs i d)
+    unfolding first_with
+    found h e = rw (drop-cons xs i d h, e)
+
+    pub passed : i < length xs → p (get_or xs i d) ≡ false → first_with p (drop i xs) ≡ first_with p (drop (i + 1) xs)
+    unfolding first_with
+    passed h e = rw (drop-cons xs i d h, e, add-one)
+
+  pub ended : (p : A → Bool) (xs : List A) (i : ℕ) → length xs ≤ i → first_with p (drop i xs) ≡ None
+  unfolding first_with
+  ended p xs i h = rw (drop_of_length-le xs {i = i} h)
+
+  -- what is left from element i on, and how long it is
+  pub left_at : (xs : List A) (i : ℕ) (d : A) → i < length xs → drop i xs ≡ get_or xs i d ∷ drop (i + 1) xs
+  left_at xs i d h = drop-cons xs i d h ∙ rw add-one
 
   -- the same of its first n
-  pub entry_in : (xs : List A) (n i : ℕ) (d : A) → i < n → n ≤ length xs → some (get_or xs i d) ≡ get_elem? (take n xs) i
+  pub entry_in : (xs : List A) (n i : ℕ) (d : A) → i < n → n ≤ length xs → Some (get_or xs i d) ≡ slice_get (take n xs) i
   entry_in xs zero i d h k = absurd (not-suc-le-zero h)
   entry_in [] (suc n) i d h k = absurd (not-suc-le-zero k)
   entry_in (x ∷ xs) (suc n) zero d h k = refl
   entry_in (x ∷ xs) (suc n) (suc i) d h k = entry_in xs n i d (le_of_suc-le-suc h) (le_of_suc-le-suc k)
 
-  pub entry_out : (xs : List A) (n i : ℕ) → n ≤ i → none ≡ get_elem? (take n xs) i
+  pub entry_out : (xs : List A) (n i : ℕ) → n ≤ i → None ≡ slice_get (take n xs) i
   entry_out xs zero i h = refl
   entry_out [] (suc n) i h = refl
   entry_out (x ∷ xs) (suc n) zero h = absurd (not-suc-le-zero h)
@@ -54,31 +74,14 @@ module _ {A : Type 0} where
       drop-cons (take n xs) i d (rw (length-take-le n xs k) h)
       ∙ rw (get_or-take n xs i d h, add-one)
 
-  pub no_rest : (xs : List A) (n i : ℕ) → n ≤ length xs → n ≤ i → drop i (take n xs) ≡ []
-  no_rest xs n i k h = drop_of_length-le (take n xs) {i = i} (rw (length-take-le n xs k) h)
-
-  -- a search there
-  module _ (p : A → Bool) (xs : List A) (n i : ℕ) (d : A) (fits : n ≤ length xs) where
-    pub found : i < n → p (get_or xs i d) ≡ true → first_with p (drop i (take n xs)) ≡ some (get_or xs i d)
-    unfolding first_with
-    found h e = rw (rest xs n i d fits h, e)
-
-    pub passed : i < n → p (get_or xs i d) ≡ false → first_with p (drop i (take n xs)) ≡ first_with p (drop (i + 1) (take n xs))
-    unfolding first_with
-    passed h e = rw (rest xs n i d fits h, e)
-
-    pub ended : n ≤ i → first_with p (drop i (take n xs)) ≡ none
-    unfolding first_with
-    ended h = rw (no_rest xs n i fits h)
-
   -- the element found passes the test
-  pub first_passes : (p : A → Bool) {x : A} (xs : List A) → first_with p xs ≡ some x → p x ≡ true
+  pub first_passes : (p : A → Bool) {x : A} (xs : List A) → first_with p xs ≡ Some x → p x ≡ true
   unfolding first_with
   first_passes p [] e = no_element e
   first_passes p {x} (y ∷ ys) e =
       by_test (p y)
       (λ t.
-      let f : some y ≡ some x = rw t at e in
+      let f : Some y ≡ Some x = rw t at e in
       let same : y ≡ x = cc in
       ap p (sym same) ∙ t)
       (λ t. first_passes p ys (rw t at e))
@@ -93,52 +96,48 @@ module _ {A : Type 0} where
         ∙ rw (← take-suc s i z h, add-one)
 
     -- all of s is laid, or all of d is taken up
-    pub laid_all : i ≡ length s → i ≤ length d → take i s ++ drop i d ≡ take (length d) s ++ drop (length s) d
+    laid_all : i ≡ length s → i ≤ length d → take i s ++ drop i d ≡ take (length d) s ++ drop (length s) d
     laid_all h k = rw (take_all i s (omega arith), take_all (length d) s (omega arith), h)
 
-    pub laid_short : i ≡ length d → length d ≤ length s → take i s ++ drop i d ≡ take (length d) s ++ drop (length s) d
+    laid_short : i ≡ length d → length d ≤ length s → take i s ++ drop i d ≡ take (length d) s ++ drop (length s) d
     laid_short h k = rw (h, drop_of_length-le d {i = length d} (omega arith), drop_of_length-le d {i = length s} k)
 
+    pub laid_full : length s ≤ i ⊎ length d ≤ i → i ≤ length s → i ≤ length d → take i s ++ drop i d ≡ take (length d) s ++ drop (length s) d
+    laid_full full h k = ⊎_elim (λ e. laid_all (omega arith) k) (λ e. laid_short (omega arith) (omega arith)) full
+
 -- a list that is not longer is laid whole
-pub laid_whole : (xs out : List ℕ) → length xs ≤ length out → laid_into xs out ≡ xs ++ drop (length xs) out
+pub laid_whole : {A : Type 0} (xs out : List A) → length xs ≤ length out → laid_into xs out ≡ xs ++ drop (length xs) out
 laid_whole xs out h = rw (take_all (length out) xs h)
 
-pub length_laid : (xs out : List ℕ) → length (laid_into xs out) ≡ length out
-length_laid xs out = rw (length-append, length-take, length-drop) (omega arith)
-
 -- each element that there is room for is laid at its place
-pub laid_at : (xs out : List ℕ) (i : ℕ) → i < length xs → i < length out → get_elem? (laid_into xs out) i ≡ get_elem? xs i
+pub laid_at : {A : Type 0} (xs out : List A) (i : ℕ) → i < length xs → i < length out → slice_get (laid_into xs out) i ≡ slice_get xs i
 laid_at [] out i h k = absurd (not-suc-le-zero h)
 laid_at (x ∷ xs) [] i h k = absurd (not-suc-le-zero k)
 laid_at (x ∷ xs) (y ∷ out) zero h k = refl
 laid_at (x ∷ xs) (y ∷ out) (suc i) h k = laid_at xs out i (le_of_suc-le-suc h) (le_of_suc-le-suc k)
 
 -- and behind them nothing changes
-pub laid_behind : (xs out : List ℕ) (i : ℕ) → length xs ≤ i → get_elem? (laid_into xs out) i ≡ get_elem? out i
+pub laid_behind : {A : Type 0} (xs out : List A) (i : ℕ) → length xs ≤ i → slice_get (laid_into xs out) i ≡ slice_get out i
 laid_behind [] out i h = rw take-nil
 laid_behind (x ∷ xs) [] i h = refl
 laid_behind (x ∷ xs) (y ∷ out) zero h = absurd (not-suc-le-zero h)
 laid_behind (x ∷ xs) (y ∷ out) (suc i) h = laid_behind xs out i (le_of_suc-le-suc h)
 
--- so a slice that they are laid into keeps its length
-pub laid_keeps : (xs out : List ℕ) {behind : List ℕ} → behind ≡ laid_into xs out → length behind ≡ length out
-laid_keeps xs out e = ap length e ∙ length_laid xs out
-
 -- one element more: it is laid where there is room
-pub laid_more : (xs out : List ℕ) (x : ℕ) → set (laid_into xs out) (length xs) x ≡ laid_into (xs ++ (x ∷ [])) out
-laid_more xs out x =
+pub laid_more : {A : Type 0} (xs out : List A) (x : A) → set (laid_into xs out) (length xs) x ≡ laid_into (xs ++ (x ∷ [])) out
+laid_more {A} xs out x =
     by_test (ltb (length xs) (length out))
     (λ t.
     let h = ltb-true (length xs) (length out) t in
-    ap (λ (r : List ℕ). set r (length xs) x) (laid_whole xs out (omega arith) ∙ ap (λ (r : List ℕ). xs ++ r) (drop-cons out (length xs) 0 h))
-    ∙ set_at xs (get_or out (length xs) 0) (drop (suc (length xs)) out) x (length xs) refl
+    ap (λ (r : List A). set r (length xs) x) (laid_whole xs out (omega arith) ∙ ap (λ (r : List A). xs ++ r) (drop-cons out (length xs) x h))
+    ∙ set_at xs (get_or out (length xs) x) (drop (suc (length xs)) out) x (length xs) refl
     ∙ sym (append_snoc xs x (drop (suc (length xs)) out))
     ∙ rw (laid_whole (xs ++ (x ∷ [])) out (rw length-append (omega arith)), length-append, add-one))
     (λ t.
     let h = ltb-false (length xs) (length out) t in
     let full : laid_into xs out ≡ take (length out) xs = rw (drop_of_length-le out {i = length xs} h) (append-nil (take (length out) xs)) in
     let long : length out ≤ length (xs ++ (x ∷ [])) = rw length-append (omega arith) in
-    ap (λ (r : List ℕ). set r (length xs) x) full
+    ap (λ (r : List A). set r (length xs) x) full
     ∙ set_out (take (length out) xs) (length xs) x (rw length-take (omega arith))
     ∙ sym (rw (drop_of_length-le out {i = length (xs ++ (x ∷ []))} long, take-append-le (length out) xs (x ∷ []) h) (append-nil (take (length out) xs))))
 
@@ -153,7 +152,7 @@ module _ {A : Type 0} where
   sets_cons y l i (x ∷ xs) = sets_cons y (set l i x) (suc i) xs
 
 -- elements stored from the first index on are laid into the list
-pub sets_laid : (xs out : List ℕ) → sets out 0 xs ≡ laid_into xs out
+pub sets_laid : {A : Type 0} (xs out : List A) → sets out 0 xs ≡ laid_into xs out
 sets_laid [] out = rw take-nil
 sets_laid (x ∷ xs) [] = sets_empty 1 xs
-sets_laid (x ∷ xs) (y ∷ out) = sets_cons x out 0 xs ∙ ap (λ (l : List ℕ). x ∷ l) (sets_laid xs out)
+sets_laid {A} (x ∷ xs) (y ∷ out) = sets_cons x out 0 xs ∙ ap (λ (l : List A). x ∷ l) (sets_laid xs out)

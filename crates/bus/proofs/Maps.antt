@@ -1,22 +1,19 @@
 -- Laws of the maps: which map a bank has, and that the fields of each lie one behind the other.
 -- Assumes nothing.
-use mathlib.Core.Path.{◌≡◌, refl, sym, ap, ◌∙◌}
+use Rattle.std.specs.Prelude.{None}
+use mathlib.Core.Path.{◌≡◌, refl, sym}
 use mathlib.Core.Bool.{true, false, and-false}
-use mathlib.Core.List.{List, [], ◌∷◌, map}
-use mathlib.Core.Option.{none}
+use mathlib.Core.List.{List, [], ◌∷◌}
 use Prim.Native.Nat.{ℕ, ◌≤◌, ◌<◌, zero-le}
 use native.Mathlib.Nat.{le-add_right}
 use native.Mathlib.Omega.{arith}
-use lib.Dec.{T, ltb, eqb→eq, lit≤}
+use lib.Dec.{T, ltb, eqb→eq}
 use borrow.Author.Tests.{le-leb, lt-leb, le-ltb, lt-ltb, ltb-true, ltb-false, ne_eqb}
-use lib.ListN.{length, length-map}
-use lib.Seq.{take-append_seam}
 use Rattle.bus.specs.declared.layout.BankField.{BankField}
-use Rattle.bus.specs.declared.layout.FieldMap.{FieldMap}
 use Rattle.bus.specs.declared.layout.BankMap.{BankMap}
 use Rattle.bus.specs.declared.layout.BankMap.TheVariants.{LuminaireInfo, Energy, GearDiagnostics, SourceDiagnostics, Maintenance, Missing}
 use Rattle.bus.specs.Width.{bytes_of}
-use Rattle.bus.specs.Maps.{table_of, entries, map_at, map_of, fields, map_end, start_of, end_of, holds, first_with, EveryMapContiguous, EveryOffsetFound}
+use Rattle.bus.specs.Maps.{map_at, map_of, fields, map_end, start_of, end_of, holds, first_with, EveryMapContiguous, EveryOffsetFound}
 use Rattle.bus.proofs.Tests.{by_test}
 use Rattle.bus.proofs.Lists.{no_element, first_passes}
 use Rattle.bus.proofs.Contiguous.{runs, here, later, reaches, contiguous}
@@ -36,32 +33,6 @@ unfolding map_at
 no_map_high bank k =
     simp (ne_eqb bank 1 (omega arith), le-leb 202 bank (omega arith), lt-leb bank 204 (omega arith), ne_eqb bank 205 (omega arith), ne_eqb bank 206 (omega arith), ne_eqb bank 207 (omega arith))
 
--- what a function of the map is, once a `match` has told which map the bank has
-pub at_map : {A : Type 0} (g : BankMap → A) {m told is : BankMap} → m ≡ told → m ≡ is → g told ≡ g is
-at_map g t e = ap g (sym t ∙ e)
-
--- and what a function of its fields is, by its table
-pub in_table : {A : Type 0} (g : List BankField → A) {m told is : BankMap} {t : FieldMap} → t ≡ table_of told → m ≡ told → m ≡ is → g (entries t) ≡ g (fields is)
-in_table g {told = told} at t e =
-    ap (λ (x : FieldMap). g (entries x)) at
-    ∙ ap g (take-append_seam (fields told) _)
-    ∙ at_map (λ (m : BankMap). g (fields m)) t e
-
-few_fields : (m : BankMap) → length (fields m) ≤ 28
-few_fields LuminaireInfo = lit≤ tt
-few_fields Energy = lit≤ tt
-few_fields GearDiagnostics = lit≤ tt
-few_fields SourceDiagnostics = lit≤ tt
-few_fields Maintenance = lit≤ tt
-few_fields Missing = lit≤ tt
-
-pub table_fits : (m : BankMap) {t : FieldMap} → t ≡ table_of m → t.len ≤ 28
-table_fits m e = rw e (few_fields m)
-
--- a table's array has 28 elements, as owning it tells
-pub table_room : (t : FieldMap) {B : Type 0} (g : BankField → B) → length (map g t.fields) ≡ 28 → t.len ≤ 28 → t.len ≤ length t.fields
-table_room t g e h = omega (arith, length-map t.fields g)
-
 -- the test, for each map
 pub every_map : (m : BankMap) → T (runs start_of end_of (map_end m) 0 (fields m))
 every_map LuminaireInfo = tt
@@ -80,7 +51,7 @@ not_held o x h = rw (le-ltb o (end_of x) h, and-false)
 
 -- a search along the fields from offset `from` on
 module _ (end : ℕ) where
-  none_behind : (o from : ℕ) (xs : List BankField) → T (runs start_of end_of end from xs) → end ≤ o → first_with (holds o) xs ≡ none
+  none_behind : (o from : ℕ) (xs : List BankField) → T (runs start_of end_of end from xs) → end ≤ o → first_with (holds o) xs ≡ None
   unfolding first_with
   none_behind o from [] t h = refl
   none_behind o from (x ∷ xs) t h =
@@ -88,7 +59,7 @@ module _ (end : ℕ) where
       let ahead = reaches start_of end_of end (λ (y : BankField). le-add_right y.offset (bytes_of y.width)) (end_of x) xs rest in
       rw (not_held o x (omega arith)) (none_behind o (end_of x) xs rest h)
 
-  none_only_behind : (o from : ℕ) (xs : List BankField) → T (runs start_of end_of end from xs) → from ≤ o → first_with (holds o) xs ≡ none → end ≤ o
+  none_only_behind : (o from : ℕ) (xs : List BankField) → T (runs start_of end_of end from xs) → from ≤ o → first_with (holds o) xs ≡ None → end ≤ o
   unfolding first_with
   none_only_behind o from [] t k e = omega (arith, eqb→eq from end t)
   none_only_behind o from (x ∷ xs) t k e =

@@ -8,7 +8,7 @@ use native.Mathlib.Numerals.{add-one}
 use native.Mathlib.Omega.{arith}
 use lib.ListN.{length, get_or, take, drop, length-append, length-take}
 use lib.Seq.{take-suc, take_all, drop-cons}
-use lib.Pow.{pow-add, pow_mono, mod-pow-add}
+use lib.Pow.{pow-add, mod-pow-add}
 use Rattle.bus.specs.Number.{number, low_bytes}
 
 -- one byte more makes 256 times as many numbers
@@ -38,11 +38,6 @@ pub number_part : (bs : List ℕ) (o n : ℕ) → n ≤ 8 → number (take 8 (ta
 number_part bs o n h =
     let all : o + n - o ≡ n = omega arith in
     ap (λ (k : ℕ). number (take 8 (take k (drop o bs)))) all ∙ number_few (take n (drop o bs)) (omega (arith, length-take n (drop o bs)))
-
-pub part_below : (bs : List ℕ) (o n : ℕ) {r : ℕ} → r < 2 ^ (8 * length (take (o + n - o) (drop o bs))) → r < 2 ^ (8 * n)
-part_below bs o n h =
-    let few : 2 ^ (8 * length (take (o + n - o) (drop o bs))) ≤ 2 ^ (8 * n) = pow_mono (omega (arith, length-take (o + n - o) (drop o bs))) in
-    omega (arith, few)
 
 pub number_one : (bs : List ℕ) (o : ℕ) → o < length bs → number (take 1 (drop o bs)) ≡ get_or bs o 0
 unfolding number

@@ -19,7 +19,7 @@ below_zero : (n r : ℕ) → n < r → pos n -ℤ pos r ≡ negsuc (r - suc n)
 below_zero n zero h = absurd (not-suc-le-zero h)
 below_zero n (suc m) h = rw (lt-ltb n (suc m) h)
 
-module _ (bits n : ℕ) (some : 1 ≤ bits) (in_range : n < 2 ^ bits) where
+module _ (bits n : ℕ) (positive : 1 ≤ bits) (in_range : n < 2 ^ bits) where
   abbrev Range : ℕ
   Range = 2 ^ bits
 
@@ -61,7 +61,7 @@ module _ (bits n : ℕ) (some : 1 ≤ bits) (in_range : n < 2 ^ bits) where
       rw (meaning_high high, mod-eq-sub-mod over, mod-eq_of_lt left) (below_zero (n + Half - Range) Half (omega arith) ∙ ap negsuc same))
 
 pub sign_without_branch : SignWithoutBranch
-sign_without_branch bits n some = formula_meaning bits (n % 2 ^ bits) some (mod-lt n (pow_pos bits))
+sign_without_branch bits n positive = formula_meaning bits (n % 2 ^ bits) positive (mod-lt n (pow_pos bits))
 
 pub signed_cases_hold : SignedCasesHold
 signed_cases_hold = refl

@@ -1,20 +1,19 @@
 -- The theorems on values: no mask is shown as a number, each case has its number, and what is written reads back.
 -- Assumes nothing.
+use Rattle.std.specs.Prelude.{Some}
 use mathlib.Core.Path.{◌≡◌, refl, sym, ◌∙◌}
 use mathlib.Core.Bool.{Bool, true, false, cond}
 use mathlib.Core.List.{List}
-use mathlib.Core.Option.{some}
-use Prim.Native.Nat.{ℕ, ◌+◌, ◌^◌, ◌≤◌, ◌<◌}
+use Prim.Native.Nat.{ℕ, ◌+◌, ◌≤◌}
 use native.Mathlib.Omega.{arith}
 use borrow.Author.Tests.{le-leb, eqb-true, eqb-false}
 use lib.Dec.{eqb}
 use lib.ListN.{length, take, drop, length-append, length-drop}
 use lib.Seq.{take_all, take_at}
-use Rattle.bus.specs.declared.ValueWidth.{ValueWidth}
 use Rattle.bus.specs.declared.BankValue.TheVariants.{Reading, NotImplemented, TemporarilyUnavailable}
 use Rattle.bus.specs.Number.{low_bytes}
-use Rattle.bus.specs.Width.{bytes_of, bits_of, mask_of, tmask_of}
-use Rattle.bus.specs.Value.{raw_of, classified, value_of, FitsWidth, encoded, NoMask, NoMaskShown, EveryRawKept, ReadsBack}
+use Rattle.bus.specs.Width.{bytes_of, mask_of, tmask_of}
+use Rattle.bus.specs.Value.{raw_of, value_of, encoded, NoMask, NoMaskShown, EveryRawKept, ReadsBack}
 use Rattle.bus.proofs.Lists.{no_element}
 use Rattle.bus.proofs.Number.{length_low_bytes, number_low_bytes}
 
@@ -23,7 +22,7 @@ no_mask_shown w raw v e = by (eqb raw (mask_of w)) (eqb raw (tmask_of w)) refl r
   where
     by :
         (a b : Bool) → eqb raw (mask_of w) ≡ a → eqb raw (tmask_of w) ≡ b →
-        value_of (cond a NotImplemented (cond b TemporarilyUnavailable (Reading raw))) ≡ some v →
+        value_of (cond a NotImplemented (cond b TemporarilyUnavailable (Reading raw))) ≡ Some v →
         NoMask w raw v
     by true b p q s = no_element s
     by false true p q s = no_element s
@@ -44,15 +43,6 @@ every_raw_kept w raw = by (eqb raw (mask_of w)) (eqb raw (tmask_of w)) refl refl
     by true b p q = sym (eqb-true raw (mask_of w) p)
     by false true p q = sym (eqb-true raw (tmask_of w) q)
     by false false p q = refl
-
--- the value of a raw number that fits fits
-pub value_fits : (w : ValueWidth) {raw : ℕ} → raw < 2 ^ bits_of w → FitsWidth w (value_of (classified w raw))
-value_fits w {raw} h = by (eqb raw (mask_of w)) (eqb raw (tmask_of w))
-  where
-    by : (a b : Bool) → FitsWidth w (value_of (cond a NotImplemented (cond b TemporarilyUnavailable (Reading raw))))
-    by true b = tt
-    by false true = tt
-    by false false = h
 
 pub reads_back : ReadsBack
 reads_back w raw out h =

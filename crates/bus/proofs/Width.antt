@@ -2,13 +2,11 @@
 -- Assumes nothing.
 use mathlib.Core.Path.{refl}
 use mathlib.Core.Bool.{Bool, true, false, cond, ◌&&◌}
-use Prim.Native.Nat.{◌-◌, ◌≤◌}
-use native.Mathlib.Omega.{arith}
+use Prim.Native.Nat.{◌≤◌}
 use lib.Dec.{T, leb, leb→le, lit≤}
-use lib.Pow.{pow_mono}
 use Rattle.bus.specs.declared.ValueWidth.{ValueWidth}
 use Rattle.bus.specs.declared.ValueWidth.TheVariants.{U8, U16, U24, U32, U48, I8, I16, I32}
-use Rattle.bus.specs.Width.{bytes_of, bits_of, signed, sign_bits, mask_of, SignedMasks}
+use Rattle.bus.specs.Width.{bytes_of, signed, sign_bits, SignedMasks}
 use Rattle.bus.proofs.Tests.{and_left, and_right}
 
 -- a test that holds of each width in the table holds of a width
@@ -44,11 +42,3 @@ few_sign_bits w = by (signed w)
     by : (b : Bool) → cond b 1 0 ≤ 1
     by true = lit≤ tt
     by false = lit≤ tt
-
--- a mask has at least 7 bits
-mask_bits : (w : ValueWidth) → 7 ≤ bits_of w - sign_bits w
-mask_bits w = omega (arith, sized w, few_sign_bits w)
-
--- no mask is below 7F hex
-pub mask_large : (w : ValueWidth) → 127 ≤ mask_of w
-mask_large w = omega (arith, pow_mono (mask_bits w))

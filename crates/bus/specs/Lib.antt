@@ -1,6 +1,5 @@
 -- The definitions that the contracts cite, in the order to read them. 01 is the scope document, 02
 -- that of the change requests; their words stand in quotes.
-pub mod Options
 pub mod Number
 pub mod Width
 pub mod SignedCases

@@ -1,12 +1,10 @@
 -- 01, closing list: "field maps are constant tables of offset and width". The tables of IEC 62386-251 and of
 -- DiiA 252 and 253, and what is looked up in them.
 -- Assumes nothing.
-use Rattle.std.specs.Prelude.{◌≡◌, Bool, true, cond, ◌&&◌, List, [], ◌∷◌, ◌++◌, ℕ, ◌+◌, ◌-◌, ◌≤◌, eqb, leb, ltb, length, take, replicate}
-use Rattle.std.proofs.Math.Option.{Option, none, some}
+use Rattle.std.specs.Prelude.{◌≡◌, Bool, true, cond, ◌&&◌, List, [], ◌∷◌, ℕ, ◌+◌, ◌-◌, ◌≤◌, eqb, leb, ltb, None, Option, Some}
 use Rattle.bus.specs.declared.ValueWidth.{ValueWidth}
 use Rattle.bus.specs.declared.ValueWidth.TheVariants.{U8, U16, U24, U32, U48, I8}
 use Rattle.bus.specs.declared.layout.BankField.{BankField}
-use Rattle.bus.specs.declared.layout.FieldMap.{FieldMap}
 use Rattle.bus.specs.declared.layout.BankMap.{BankMap}
 use Rattle.bus.specs.declared.layout.BankMap.TheVariants.{LuminaireInfo, Energy, GearDiagnostics, SourceDiagnostics, Maintenance, Missing}
 use Rattle.bus.specs.Width.{bytes_of}
@@ -55,14 +53,6 @@ fields SourceDiagnostics = source_diagnostics
 fields Maintenance = maintenance
 fields Missing = []
 
--- a map as a table: its fields, filled up to 28
-abbrev pub table_of : BankMap → FieldMap
-table_of m = record { len = length (fields m); fields = fields m ++ replicate (28 - length (fields m)) (f 0xFF U8) }
-
--- the fields that a table holds
-abbrev pub entries : FieldMap → List BankField
-entries t = take t.len t.fields
-
 -- the offset behind a map's last byte: "The bank 1 map ends at 23 hex"
 abbrev pub map_end : BankMap → ℕ
 map_end LuminaireInfo = 0x23 + 1
@@ -74,12 +64,12 @@ map_end Missing = 0
 
 -- the last offset of banks 202 to 207, which end with their map; how long a bank 1 is, its own first byte says
 abbrev pub fixed_last : BankMap → Option ℕ
-fixed_last LuminaireInfo = none
-fixed_last Energy = some (map_end Energy - 1)
-fixed_last GearDiagnostics = some (map_end GearDiagnostics - 1)
-fixed_last SourceDiagnostics = some (map_end SourceDiagnostics - 1)
-fixed_last Maintenance = some (map_end Maintenance - 1)
-fixed_last Missing = none
+fixed_last LuminaireInfo = None
+fixed_last Energy = Some (map_end Energy - 1)
+fixed_last GearDiagnostics = Some (map_end GearDiagnostics - 1)
+fixed_last SourceDiagnostics = Some (map_end SourceDiagnostics - 1)
+fixed_last Maintenance = Some (map_end Maintenance - 1)
+fixed_last Missing = None
 
 -- the map of a bank, by its number
 unfoldable pub map_at : ℕ → BankMap
@@ -107,8 +97,8 @@ holds o x = leb x.offset o && ltb o (end_of x)
 
 -- the first element that passes a test
 unfoldable pub first_with : {A : Type 0} → (A → Bool) → List A → Option A
-first_with p [] = none
-first_with p (x ∷ xs) = cond (p x) (some x) (first_with p xs)
+first_with p [] = None
+first_with p (x ∷ xs) = cond (p x) (Some x) (first_with p xs)
 
 -- the field of a bank that the byte at an offset belongs to
 abbrev pub field_containing : ℕ → ℕ → Option BankField
@@ -116,8 +106,8 @@ field_containing bank o = first_with (holds o) (map_of bank)
 
 -- an offset is a boundary where a field starts, and where there is no field
 abbrev pub starts_at : ℕ → Option BankField → Bool
-starts_at o (some x) = eqb x.offset o
-starts_at o none = true
+starts_at o (Some x) = eqb x.offset o
+starts_at o None = true
 
 -- a part of a bank that starts at the offset, or ends before it, cuts no field
 abbrev pub is_boundary : ℕ → ℕ → Bool
@@ -129,9 +119,9 @@ EveryMapContiguous = (bank : ℕ) → Contiguous start_of end_of 0 (map_end (map
 
 -- The field found for an offset holds it, and none is found exactly from the end of the map on.
 pub record Found (bank o : ℕ) : Type 0 where
-  pub holds_it : {x : BankField} → field_containing bank o ≡ some x → holds o x ≡ true
-  pub none_behind : map_end (map_at bank) ≤ o → field_containing bank o ≡ none
-  pub none_only_behind : field_containing bank o ≡ none → map_end (map_at bank) ≤ o
+  pub holds_it : {x : BankField} → field_containing bank o ≡ Some x → holds o x ≡ true
+  pub none_behind : map_end (map_at bank) ≤ o → field_containing bank o ≡ None
+  pub none_only_behind : field_containing bank o ≡ None → map_end (map_at bank) ≤ o
 
 abbrev pub EveryOffsetFound : Type 0
 EveryOffsetFound = (bank o : ℕ) → Found bank o

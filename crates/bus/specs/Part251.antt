@@ -1,7 +1,6 @@
 -- 01, "May the field be written": the formats and the text fields of bank 1 (IEC 62386-251).
 -- Assumes nothing.
-use Rattle.std.specs.Prelude.{Bool, [], ◌∷◌, ℕ, ◌+◌, ◌-◌, eqb, leb}
-use Rattle.std.proofs.Math.Option.{Option}
+use Rattle.std.specs.Prelude.{Bool, [], ◌∷◌, ℕ, ◌+◌, ◌-◌, eqb, leb, Option}
 use Rattle.bus.specs.declared.part251.LuminaireFormat.{LuminaireFormat}
 use Rattle.bus.specs.declared.part251.LuminaireFormat.TheVariants.{V3, V4, V5}
 use Rattle.bus.specs.declared.part251.TextRegion.{TextRegion}

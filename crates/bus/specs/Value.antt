@@ -1,11 +1,9 @@
 -- 01, "The records": what a raw number says at a width, read from a bank's bytes and written into them.
 -- Assumes nothing.
-use Rattle.std.specs.Prelude.{◌≡◌, Bool, true, false, cond, List, ◌++◌, ℕ, ◌+◌, ◌%◌, ◌^◌, ◌≤◌, ◌<◌, eqb, leb, length, take, drop}
-use Rattle.std.proofs.Math.Option.{Option, none, some, map}
+use Rattle.std.specs.Prelude.{◌≡◌, Bool, true, false, cond, List, ◌++◌, ℕ, ◌+◌, ◌%◌, ◌^◌, ◌≤◌, ◌<◌, eqb, leb, length, take, drop, None, Option, Some, option_map}
 use Rattle.bus.specs.declared.ValueWidth.{ValueWidth}
 use Rattle.bus.specs.declared.BankValue.{BankValue}
 use Rattle.bus.specs.declared.BankValue.TheVariants.{Reading, NotImplemented, TemporarilyUnavailable}
-use Rattle.bus.specs.declared.OptionBankValue.{OptionBankValue}
 use Rattle.bus.specs.Number.{number, low_bytes}
 use Rattle.bus.specs.Width.{bytes_of, bits_of, mask_of, tmask_of, max_valid_of}
 
@@ -23,19 +21,19 @@ classified w raw =
 
 -- only a reading has a value
 abbrev pub value_of : BankValue → Option ℕ
-value_of (Reading v) = some v
-value_of NotImplemented = none
-value_of TemporarilyUnavailable = none
+value_of (Reading v) = Some v
+value_of NotImplemented = None
+value_of TemporarilyUnavailable = None
 
 -- the value that was read, if one was
-abbrev pub value_in : OptionBankValue → Option ℕ
-value_in (OptionBankValue.Some b) = value_of b
-value_in OptionBankValue.None = none
+abbrev pub value_in : Option BankValue → Option ℕ
+value_in (Some b) = value_of b
+value_in None = None
 
 -- a value has no more bits than its width
 abbrev pub FitsWidth : ValueWidth → Option ℕ → Type 0
-FitsWidth w (some v) = v < 2 ^ bits_of w
-FitsWidth w none = Unit {0}
+FitsWidth w (Some v) = v < 2 ^ bits_of w
+FitsWidth w None = Unit {0}
 
 -- "not implemented"
 abbrev pub is_not_implemented : BankValue → Bool
@@ -57,15 +55,15 @@ saturated w TemporarilyUnavailable = false
 
 -- "a field not wholly present is absent": its bytes, so many from an offset on
 abbrev pub bytes_at : ℕ → ℕ → List ℕ → Option (List ℕ)
-bytes_at offset n bytes = cond (leb (offset + n) (length bytes)) (some (take n (drop offset bytes))) none
+bytes_at offset n bytes = cond (leb (offset + n) (length bytes)) (Some (take n (drop offset bytes))) None
 
 -- what those of a width say
 abbrev pub read_at : ValueWidth → ℕ → List ℕ → Option BankValue
-read_at w offset bytes = map (λ bs. classified w (number bs)) (bytes_at offset (bytes_of w) bytes)
+read_at w offset bytes = option_map (λ bs. classified w (number bs)) (bytes_at offset (bytes_of w) bytes)
 
 -- elements in the place of an output's first ones: a short output takes the leading ones, the rest of a long one is
 -- unchanged
-abbrev pub laid_into : List ℕ → List ℕ → List ℕ
+abbrev pub laid_into : {A : Type 0} → List A → List A → List A
 laid_into xs out = take (length out) xs ++ drop (length xs) out
 
 -- "`encode_value` (a short output takes the leading bytes)"
@@ -79,7 +77,7 @@ pub record NoMask (w : ValueWidth) (raw v : ℕ) : Type 0 where
   pub no_tmask : v ≡ tmask_of w → ⊥
 
 abbrev pub NoMaskShown : Type 0
-NoMaskShown = (w : ValueWidth) (raw v : ℕ) → value_of (classified w raw) ≡ some v → NoMask w raw v
+NoMaskShown = (w : ValueWidth) (raw v : ℕ) → value_of (classified w raw) ≡ Some v → NoMask w raw v
 
 -- What is said of a raw number tells the number again: each case has its number.
 abbrev pub EveryRawKept : Type 0
@@ -89,4 +87,4 @@ EveryRawKept = (w : ValueWidth) (raw : ℕ) → raw_of w (classified w raw) ≡ 
 abbrev pub ReadsBack : Type 0
 ReadsBack =
     (w : ValueWidth) (raw : ℕ) (out : List ℕ) →
-    bytes_of w ≤ length out → read_at w 0 (encoded w raw out) ≡ some (classified w (raw % 2 ^ bits_of w))
+    bytes_of w ≤ length out → read_at w 0 (encoded w raw out) ≡ Some (classified w (raw % 2 ^ bits_of w))

@@ -1,11 +1,9 @@
 // The field maps of the banks (layout.rs): constant tables of offset and width, and the look-ups in them.
-ghost use Rattle.std.specs.Prelude.{◌≡◌, ◌≤◌, length};
-ghost use Rattle.std.proofs.Math.ListN.{get_elem?};
-ghost use Rattle.bus.specs.Options.{option_u8, option_bank_field};
-ghost use Rattle.bus.specs.Maps.{fields, table_of, map_at, map_of, entries, fixed_last, holds, first_with, field_containing, is_boundary};
+ghost use Rattle.std.specs.Prelude.{◌≡◌};
+ghost use Rattle.bus.specs.Maps.{fields, map_at, map_of, fixed_last, holds, field_containing, is_boundary};
 
+use crate::ValueWidth;
 use crate::part251::{BANK_LUMINAIRE_INFO, BANK_LUMINAIRE_INFO_MAP};
-use crate::{OptionU8, ValueWidth};
 
 #[derive(Clone, Copy)]
 pub struct BankField {
@@ -19,54 +17,7 @@ impl BankField {
         ensures { result ≡ holds offset self }
     {
         let start = self.offset as u16;
-        let width = self.width;
-        if start <= offset {
-            offset < start + width.bytes() as u16
-        } else {
-            false
-        }
-    }
-}
-
-#[derive(Clone, Copy)]
-pub enum OptionBankField {
-    Some(BankField),
-    None,
-}
-
-// A table with its map's length: the first len entries are the map, by rising offset. Each table has
-// room for the longest map, so that one loop serves all of them.
-#[derive(Clone, Copy)]
-pub struct FieldMap {
-    pub len: usize,
-    pub fields: [BankField; 28],
-}
-
-impl FieldMap {
-    fn entry(self, index: usize) -> OptionBankField
-        requires { self.len ≤ 28 }
-        ensures { result ≡ option_bank_field (get_elem? (entries self) index) }
-    {
-        if index < self.len {
-            OptionBankField::Some(self.fields[index])
-        } else {
-            OptionBankField::None
-        }
-    }
-
-    fn containing(self, offset: u16) -> OptionBankField
-        requires { self.len ≤ 28 }
-        ensures { result ≡ option_bank_field (first_with (holds offset) (entries self)) }
-    {
-        let mut i = 0;
-        while i < self.len {
-            let field = self.fields[i];
-            if field.holds(offset) {
-                return OptionBankField::Some(field);
-            }
-            i += 1;
-        }
-        OptionBankField::None
+        start <= offset && offset < start + self.width.bytes() as u16
     }
 }
 
@@ -91,14 +42,8 @@ const META_2: BankField = BankField {
     width: ValueWidth::U8,
 };
 
-// Fills a table behind its map.
-const UNUSED: BankField = BankField {
-    offset: 0xFF,
-    width: ValueWidth::U8,
-};
-
 // DiiA 252 §9.2.9, §9.2.10, §9.2.11
-pub const BANK_ENERGY: [BankField; 28] = [
+pub const BANK_ENERGY: [BankField; 8] = [
     META_0,
     META_1,
     META_2,
@@ -122,30 +67,10 @@ pub const BANK_ENERGY: [BankField; 28] = [
         offset: 0x0C,
         width: ValueWidth::U32,
     },
-    UNUSED,
-    UNUSED,
-    UNUSED,
-    UNUSED,
-    UNUSED,
-    UNUSED,
-    UNUSED,
-    UNUSED,
-    UNUSED,
-    UNUSED,
-    UNUSED,
-    UNUSED,
-    UNUSED,
-    UNUSED,
-    UNUSED,
-    UNUSED,
-    UNUSED,
-    UNUSED,
-    UNUSED,
-    UNUSED,
 ];
 
 // DiiA 253 §9.2.16
-pub const BANK_GEAR_DIAGNOSTICS: [BankField; 28] = [
+pub const BANK_GEAR_DIAGNOSTICS: [BankField; 23] = [
     META_0,
     META_1,
     META_2,
@@ -229,15 +154,10 @@ pub const BANK_GEAR_DIAGNOSTICS: [BankField; 28] = [
         offset: 0x1C,
         width: ValueWidth::U8,
     },
-    UNUSED,
-    UNUSED,
-    UNUSED,
-    UNUSED,
-    UNUSED,
 ];
 
 // DiiA 253 §9.2.17
-pub const BANK_SOURCE_DIAGNOSTICS: [BankField; 28] = [
+pub const BANK_SOURCE_DIAGNOSTICS: [BankField; 21] = [
     META_0,
     META_1,
     META_2,
@@ -313,17 +233,10 @@ pub const BANK_SOURCE_DIAGNOSTICS: [BankField; 28] = [
         offset: 0x20,
         width: ValueWidth::U8,
     },
-    UNUSED,
-    UNUSED,
-    UNUSED,
-    UNUSED,
-    UNUSED,
-    UNUSED,
-    UNUSED,
 ];
 
 // DiiA 253 §9.2.18
-pub const BANK_LUMINAIRE: [BankField; 28] = [
+pub const BANK_LUMINAIRE: [BankField; 7] = [
     META_0,
     META_1,
     META_2,
@@ -343,27 +256,6 @@ pub const BANK_LUMINAIRE: [BankField; 28] = [
         offset: 0x06,
         width: ValueWidth::U16,
     },
-    UNUSED,
-    UNUSED,
-    UNUSED,
-    UNUSED,
-    UNUSED,
-    UNUSED,
-    UNUSED,
-    UNUSED,
-    UNUSED,
-    UNUSED,
-    UNUSED,
-    UNUSED,
-    UNUSED,
-    UNUSED,
-    UNUSED,
-    UNUSED,
-    UNUSED,
-    UNUSED,
-    UNUSED,
-    UNUSED,
-    UNUSED,
 ];
 
 pub const DEVICE_TYPE_ENERGY: u8 = 51;
@@ -393,49 +285,30 @@ pub enum BankMap {
     Missing,
 }
 
-// Each table by value, for a loop over it: an index into a constant would copy the table at each turn.
-pub fn luminaire_info_map() -> FieldMap
-    ensures { result ≡ table_of BankMap.LuminaireInfo }
-{
-    FieldMap {
-        len: 28,
-        fields: BANK_LUMINAIRE_INFO_MAP,
+impl BankMap {
+    fn fields(self) -> &'static [BankField]
+        ensures { result.now ≡ fields self }
+    {
+        match self {
+            BankMap::LuminaireInfo => &BANK_LUMINAIRE_INFO_MAP,
+            BankMap::Energy => &BANK_ENERGY,
+            BankMap::GearDiagnostics => &BANK_GEAR_DIAGNOSTICS,
+            BankMap::SourceDiagnostics => &BANK_SOURCE_DIAGNOSTICS,
+            BankMap::Maintenance => &BANK_LUMINAIRE,
+            BankMap::Missing => &[],
+        }
     }
-}
 
-pub fn energy_map() -> FieldMap
-    ensures { result ≡ table_of BankMap.Energy }
-{
-    FieldMap {
-        len: 8,
-        fields: BANK_ENERGY,
-    }
-}
-
-pub fn gear_diagnostics_map() -> FieldMap
-    ensures { result ≡ table_of BankMap.GearDiagnostics }
-{
-    FieldMap {
-        len: 23,
-        fields: BANK_GEAR_DIAGNOSTICS,
-    }
-}
-
-pub fn source_diagnostics_map() -> FieldMap
-    ensures { result ≡ table_of BankMap.SourceDiagnostics }
-{
-    FieldMap {
-        len: 21,
-        fields: BANK_SOURCE_DIAGNOSTICS,
-    }
-}
-
-pub fn maintenance_map() -> FieldMap
-    ensures { result ≡ table_of BankMap.Maintenance }
-{
-    FieldMap {
-        len: 7,
-        fields: BANK_LUMINAIRE,
+    fn last_offset(self) -> Option<u8>
+        ensures { result ≡ fixed_last self }
+    {
+        match self {
+            BankMap::Energy => Some(0x0F),
+            BankMap::GearDiagnostics => Some(0x1C),
+            BankMap::SourceDiagnostics => Some(0x20),
+            BankMap::Maintenance => Some(0x07),
+            BankMap::LuminaireInfo | BankMap::Missing => None,
+        }
     }
 }
 
@@ -457,72 +330,30 @@ pub fn map_of(bank: u8) -> BankMap
     }
 }
 
-fn map_last_offset(map: BankMap) -> OptionU8
-    ensures { result ≡ option_u8 (fixed_last map) }
-{
-    match map {
-        BankMap::LuminaireInfo => OptionU8::None,
-        BankMap::Energy => OptionU8::Some(0x0F),
-        BankMap::GearDiagnostics => OptionU8::Some(0x1C),
-        BankMap::SourceDiagnostics => OptionU8::Some(0x20),
-        BankMap::Maintenance => OptionU8::Some(0x07),
-        BankMap::Missing => OptionU8::None,
-    }
-}
-
 // The last offset of a bank whose length is fixed.
-pub fn bank_last_offset(bank: u8) -> OptionU8
-    ensures { result ≡ option_u8 (fixed_last (map_at bank)) }
+pub fn bank_last_offset(bank: u8) -> Option<u8>
+    ensures { result ≡ fixed_last (map_at bank) }
 {
-    map_last_offset(map_of(bank))
+    map_of(bank).last_offset()
 }
 
-fn map_len(map: BankMap) -> usize
-    ensures { result ≡ length (fields map) }
+// The fields of a bank, by rising offset.
+pub fn bank_field_map(bank: u8) -> &'static [BankField]
+    ensures { result.now ≡ map_of bank }
 {
-    match map {
-        BankMap::LuminaireInfo => 28,
-        BankMap::Energy => 8,
-        BankMap::GearDiagnostics => 23,
-        BankMap::SourceDiagnostics => 21,
-        BankMap::Maintenance => 7,
-        BankMap::Missing => 0,
-    }
-}
-
-// How many fields the map of a bank has.
-pub fn bank_field_map_len(bank: u8) -> usize
-    ensures { result ≡ length (map_of bank) }
-{
-    map_len(map_of(bank))
-}
-
-// One field of the map of a bank, by its place in it.
-pub fn bank_field_map(bank: u8, index: usize) -> OptionBankField
-    ensures { result ≡ option_bank_field (get_elem? (map_of bank) index) }
-{
-    match map_of(bank) {
-        BankMap::LuminaireInfo => luminaire_info_map().entry(index),
-        BankMap::Energy => energy_map().entry(index),
-        BankMap::GearDiagnostics => gear_diagnostics_map().entry(index),
-        BankMap::SourceDiagnostics => source_diagnostics_map().entry(index),
-        BankMap::Maintenance => maintenance_map().entry(index),
-        BankMap::Missing => OptionBankField::None,
-    }
+    map_of(bank).fields()
 }
 
 // The field of a bank that the byte at an offset belongs to.
-pub fn field_containing(bank: u8, offset: u16) -> OptionBankField
-    ensures { result ≡ option_bank_field (field_containing bank offset) }
+pub fn field_containing(bank: u8, offset: u16) -> Option<BankField>
+    ensures { result ≡ field_containing bank offset }
 {
-    match map_of(bank) {
-        BankMap::LuminaireInfo => luminaire_info_map().containing(offset),
-        BankMap::Energy => energy_map().containing(offset),
-        BankMap::GearDiagnostics => gear_diagnostics_map().containing(offset),
-        BankMap::SourceDiagnostics => source_diagnostics_map().containing(offset),
-        BankMap::Maintenance => maintenance_map().containing(offset),
-        BankMap::Missing => OptionBankField::None,
+    for field in bank_field_map(bank) {
+        if field.holds(offset) {
+            return Some(*field);
+        }
     }
+    None
 }
 
 // A part of a bank that starts at the offset, or ends before it, cuts no field.
@@ -530,7 +361,7 @@ pub fn is_field_boundary(bank: u8, offset: u16) -> bool
     ensures { result ≡ is_boundary bank offset }
 {
     match field_containing(bank, offset) {
-        OptionBankField::Some(field) => field.offset as u16 == offset,
-        OptionBankField::None => true,
+        Some(field) => field.offset as u16 == offset,
+        None => true,
     }
 }

@@ -9,18 +9,17 @@ ghost use Rattle.std.specs.Prelude.{◌≡◌, ◌*◌, ◌^◌, ◌<◌, length
 ghost use Rattle.bus.specs.Number.{number};
 ghost use Rattle.bus.specs.Width.{bytes_of, signed, mask_of, tmask_of, max_valid_of, to_signed, signed_meaning};
 ghost use Rattle.bus.specs.Value.{classified, value_of, value_in, FitsWidth, unavailable, saturated, read_at, encoded};
-ghost use Rattle.bus.specs.Options.{option_u64, option_bank_value};
 
 pub use layout::{
     BANK_ACTIVE_ENERGY, BANK_APPARENT_ENERGY, BANK_CONTROL_GEAR_DIAGNOSTICS,
     BANK_LIGHT_SOURCE_DIAGNOSTICS, BANK_LOADSIDE_ENERGY, BANK_LOCK_BYTE,
     BANK_LUMINAIRE_MAINTENANCE, BANK_META_LEN, BANK_VERSION_OFFSET, BankField,
-    DEVICE_TYPE_DIAGNOSTICS, DEVICE_TYPE_ENERGY, OptionBankField, bank_field_map,
-    bank_field_map_len, bank_last_offset, field_containing, is_field_boundary,
+    DEVICE_TYPE_DIAGNOSTICS, DEVICE_TYPE_ENERGY, bank_field_map, bank_last_offset,
+    field_containing, is_field_boundary,
 };
 pub use part251::{
     BANK_LUMINAIRE_INFO, BANK1_BASE_LAST_OFFSET, BANK1_FORMAT_GATE_LAST_OFFSET,
-    CONTENT_FORMAT_ID_OFFSET, LuminaireFormat, OptionLuminaireFormat, TextRegion,
+    CONTENT_FORMAT_ID_OFFSET, LuminaireFormat, TextRegion,
 };
 
 fn power_of_two(exponent: usize) -> u64
@@ -47,14 +46,11 @@ impl ValueWidth {
         ensures { result ≡ bytes_of self }
     {
         match self {
-            ValueWidth::U8 => 1,
-            ValueWidth::U16 => 2,
+            ValueWidth::U8 | ValueWidth::I8 => 1,
+            ValueWidth::U16 | ValueWidth::I16 => 2,
             ValueWidth::U24 => 3,
-            ValueWidth::U32 => 4,
+            ValueWidth::U32 | ValueWidth::I32 => 4,
             ValueWidth::U48 => 6,
-            ValueWidth::I8 => 1,
-            ValueWidth::I16 => 2,
-            ValueWidth::I32 => 4,
         }
     }
 
@@ -82,16 +78,7 @@ impl ValueWidth {
     pub fn is_signed(self) -> bool
         ensures { result ≡ signed self }
     {
-        match self {
-            ValueWidth::U8 => false,
-            ValueWidth::U16 => false,
-            ValueWidth::U24 => false,
-            ValueWidth::U32 => false,
-            ValueWidth::U48 => false,
-            ValueWidth::I8 => true,
-            ValueWidth::I16 => true,
-            ValueWidth::I32 => true,
-        }
+        matches!(self, ValueWidth::I8 | ValueWidth::I16 | ValueWidth::I32)
     }
 
     // The signed meaning of the low bytes of raw, at any width, without a branch: the first remainder keeps the sum
@@ -113,18 +100,6 @@ pub fn signed_byte(raw: u8) -> i8
 }
 
 #[derive(Clone, Copy)]
-pub enum OptionU8 {
-    Some(u8),
-    None,
-}
-
-#[derive(Clone, Copy)]
-pub enum OptionU64 {
-    Some(u64),
-    None,
-}
-
-#[derive(Clone, Copy)]
 pub enum BankValue {
     Reading(u64),
     NotImplemented,
@@ -132,41 +107,26 @@ pub enum BankValue {
 }
 
 impl BankValue {
-    pub fn value(self) -> OptionU64
-        ensures { result ≡ option_u64 (value_of self) }
+    pub fn value(self) -> Option<u64>
+        ensures { result ≡ value_of self }
     {
         match self {
-            BankValue::Reading(v) => OptionU64::Some(v),
-            BankValue::NotImplemented => OptionU64::None,
-            BankValue::TemporarilyUnavailable => OptionU64::None,
+            BankValue::Reading(v) => Some(v),
+            BankValue::NotImplemented | BankValue::TemporarilyUnavailable => None,
         }
     }
 
     pub fn is_temporarily_unavailable(self) -> bool
         ensures { result ≡ unavailable self }
     {
-        match self {
-            BankValue::Reading(_) => false,
-            BankValue::NotImplemented => false,
-            BankValue::TemporarilyUnavailable => true,
-        }
+        matches!(self, BankValue::TemporarilyUnavailable)
     }
 
     pub fn is_saturated(self, width: ValueWidth) -> bool
         ensures { result ≡ saturated width self }
     {
-        match self {
-            BankValue::Reading(v) => v == width.max_valid(),
-            BankValue::NotImplemented => false,
-            BankValue::TemporarilyUnavailable => false,
-        }
+        matches!(self, BankValue::Reading(v) if v == width.max_valid())
     }
-}
-
-#[derive(Clone, Copy)]
-pub enum OptionBankValue {
-    Some(BankValue),
-    None,
 }
 
 // The number that bytes make, high byte first; of more than eight the first eight.
@@ -174,32 +134,22 @@ pub fn number_of(bytes: &[u8]) -> u64
     ensures value { result ≡ number (take 8 bytes.now) }
     ensures below { result < 2 ^ (8 * length bytes.now) }
 {
-    let mut number: u64 = 0;
-    let mut i = 0;
-    while i < 8 {
-        if bytes.len() <= i {
-            return number;
-        }
-        number = number * 256 + bytes[i] as u64;
-        i += 1;
+    let first = &bytes[..usize::min(8, bytes.len())];
+    let mut number = 0;
+    for byte in first {
+        number = number * 256 + *byte as u64;
     }
     number
 }
 
 // What a bank's bytes say at an offset; nothing where they are not all present.
-pub fn read_value(bytes: &[u8], offset: usize, width: ValueWidth) -> OptionBankValue
-    ensures value { result ≡ option_bank_value (read_at width offset bytes.now) }
+pub fn read_value(bytes: &[u8], offset: usize, width: ValueWidth) -> Option<BankValue>
+    ensures value { result ≡ read_at width offset bytes.now }
     ensures fits { FitsWidth width (value_in result) }
 {
-    let n = width.bytes();
-    if bytes.len() < n {
-        return OptionBankValue::None;
-    }
-    if bytes.len() - n < offset {
-        return OptionBankValue::None;
-    }
-    let raw = number_of(&bytes[offset..offset + n]);
-    OptionBankValue::Some(classify(raw, width))
+    let end = offset.checked_add(width.bytes())?;
+    let field = bytes.get(offset..end)?;
+    Some(classify(number_of(field), width))
 }
 
 pub fn classify(raw: u64, width: ValueWidth) -> BankValue
@@ -219,13 +169,8 @@ pub fn encode_value(raw: u64, width: ValueWidth, out: &mut [u8])
     ensures { out.new ≡ encoded width raw out.old }
 {
     let n = width.bytes();
-    let mut i = 0;
-    while i < n {
-        if out.len() <= i {
-            return;
-        }
+    for i in 0..usize::min(n, out.len()) {
         let shift = 8 * (n - 1 - i);
         out[i] = ((raw >> shift) % 256) as u8;
-        i += 1;
     }
 }

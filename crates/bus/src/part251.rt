@@ -1,6 +1,5 @@
 // Bank 1 (part251.rs, IEC 62386-251): its formats, its map and its texts.
 ghost use Rattle.std.specs.Prelude.{◌≡◌};
-ghost use Rattle.bus.specs.Options.{option_luminaire_format};
 ghost use Rattle.bus.specs.Part251.{id_of, format_of, min_last_offset, has_light_distribution, has_extended_block};
 
 use crate::ValueWidth;
@@ -21,22 +20,17 @@ pub enum LuminaireFormat {
     V5,
 }
 
-#[derive(Clone, Copy)]
-pub enum OptionLuminaireFormat {
-    Some(LuminaireFormat),
-    None,
-}
-
+// The two conversions keep the Rust's names.
 impl LuminaireFormat {
     #[tactic(auto, unfolding(crate::specs::Part251::format_of, crate::specs::Maps::first_with))]
-    pub fn from_content_format_id(id: u16) -> OptionLuminaireFormat
-        ensures { result ≡ option_luminaire_format (format_of id) }
+    pub fn from_content_format_id(id: u16) -> Option<LuminaireFormat>
+        ensures { result ≡ format_of id }
     {
         match id {
-            3 => OptionLuminaireFormat::Some(LuminaireFormat::V3),
-            4 => OptionLuminaireFormat::Some(LuminaireFormat::V4),
-            5 => OptionLuminaireFormat::Some(LuminaireFormat::V5),
-            _ => OptionLuminaireFormat::None,
+            3 => Some(LuminaireFormat::V3),
+            4 => Some(LuminaireFormat::V4),
+            5 => Some(LuminaireFormat::V5),
+            _ => None,
         }
     }
 

@@ -1,16 +1,15 @@
 -- The claim: a cut plan, read back.
 -- Assumes nothing.
+use Rattle.std.specs.Prelude.{Ok, Some, slice_get}
 use mathlib.Core.Path.{◌≡◌, refl, sym, ap, ◌∙◌}
 use mathlib.Core.List.{List, ◌∷◌, ◌++◌}
-use mathlib.Core.Option.{some}
 use Prim.Native.Nat.{ℕ, ◌+◌, ◌≤◌}
 use native.Mathlib.Nat.{zero-add}
 use native.Mathlib.Omega.{arith}
 use borrow.Author.Tests.{le-ltb, eq-eqb, eqb-true}
-use lib.ListN.{length, take, drop, get_elem?}
+use lib.ListN.{length, take, drop}
 use lib.Seq.{take_all, take_at, length-take-le}
 use Rattle.bank.specs.declared.read_out.ReadOut.{ReadOut}
-use Rattle.bank.specs.declared.read_out.ResultReadOut.{ResultReadOut}
 use Rattle.bank.specs.Refusal.{first_of}
 use Rattle.bank.specs.Chunk.{ChunkRule, Bounded, chunk_len}
 use Rattle.bank.specs.ReadOut.{fresh, starting, laid}
@@ -23,7 +22,7 @@ use Rattle.records.specs.Cut.{cut_bank}
 use Rattle.records.specs.Claim.{begin, fetched, standing, Done, now_of, Answered, CutPlanReadsBack, EveryRuleReadsBack}
 use Rattle.records.proofs.CutFields.{cut_outside, cut_whole, one_begun, cut_begun, cut_others, length_cut}
 
-started : (n : ℕ) → n ≤ 256 → starting 1 n ≡ ResultReadOut.Ok (fresh 1 n)
+started : (n : ℕ) → n ≤ 256 → starting 1 n ≡ Ok (fresh 1 n)
 unfolding first_of
 started n h = rw (le-ltb 256 n h, le-ltb n 0 (omega arith))
 
@@ -44,10 +43,10 @@ module _ (chunk : ChunkRule) (rule : Bounded chunk) (bank buffer : List ℕ) whe
       record {
         next_is = stands before;
         answers_so =
-            ap (λ (cs : List Call). get_elem? (answers_of chunk (begin bank buffer) cs) (length before)) e
+            ap (λ (cs : List Call). slice_get (answers_of chunk (begin bank buffer) cs) (length before)) e
             ∙ answer_behind chunk rule (begin bank buffer) before c rest
-            ∙ ap some (answer_same chunk rule (after chunk (begin bank buffer) before) buffer c (behind before).room_stays)
-            ∙ ap (λ (r : ReadOut). some (answer chunk (state_of r buffer) c)) (stands before);
+            ∙ ap Some (answer_same chunk rule (after chunk (begin bank buffer) before) buffer c (behind before).room_stays)
+            ∙ ap (λ (r : ReadOut). Some (answer chunk (state_of r buffer) c)) (stands before);
       }
 
   module _ (calls : List Call) (held : HoldsChunks chunk bank (begin bank buffer) calls) where
@@ -85,7 +84,7 @@ every_rule_reads_back chunk rule old p text k bank buffer calls is_old accepted 
       each_call = λ before c rest e. answered chunk rule bank buffer calls before c rest e;
       buffer_is = buffer_holds chunk rule bank buffer calls held;
       ends = at_end chunk rule bank buffer calls held;
-      outside = λ done j out. ap (λ (l : List ℕ). get_elem? l j) (now done) ∙ cut_outside old p text is_old accepted k j out;
+      outside = λ done j out. ap (λ (l : List ℕ). slice_get l j) (now done) ∙ cut_outside old p text is_old accepted k j out;
       whole = λ done i m. ap (λ (l : List ℕ). reads 0 l i) (now done) ∙ cut_whole old p text is_old accepted k i m;
       only_one = λ done i j a b. one_begun old p text is_old accepted k i j a b;
       in_between = λ done i m. ap (λ (l : List ℕ). reads 0 l i) (now done) ∙ cut_begun old p text is_old accepted k i m;

@@ -1,9 +1,9 @@
 -- A configuration keeps its byte.
 -- Assumes nothing.
+use Rattle.std.specs.Prelude.{None, Option, Some}
 use mathlib.Core.Path.{◌≡◌, refl, sym}
 use mathlib.Core.Bool.{Bool, true, false, cond}
 use mathlib.Core.List.{[], ◌∷◌}
-use mathlib.Core.Option.{Option, none, some}
 use borrow.Author.Tests.{eqb-true}
 use lib.Dec.{eqb, leb}
 use Rattle.bus.proofs.Lists.{first_passes}
@@ -22,5 +22,5 @@ every_byte_kept n = by (emergency n) refl
     ranges false false = refl
 
     by : (o : Option EmergencyGearType) → emergency n ≡ o → raw_of (configuration n o) ≡ n
-    by none e = ranges (leb n 8) (leb n 191)
-    by (some t) e = sym (eqb-true n (gear_byte t) (first_passes (λ (g : EmergencyGearType). eqb n (gear_byte g)) (A ∷ B ∷ C ∷ D ∷ []) e))
+    by None e = ranges (leb n 8) (leb n 191)
+    by (Some t) e = sym (eqb-true n (gear_byte t) (first_passes (λ (g : EmergencyGearType). eqb n (gear_byte g)) (A ∷ B ∷ C ∷ D ∷ []) e))

@@ -1,18 +1,17 @@
 -- What each field of a bank reads as behind the cut of an accepted plan.
 -- Assumes nothing.
+use Rattle.std.specs.Prelude.{None, Option, Some, option_map, slice_get}
 use mathlib.Core.Path.{◌≡◌, refl, sym, ap, ◌∙◌, subst}
 use mathlib.Core.Logic.{◌≢◌}
 use mathlib.Core.Bool.{Bool, true, false, cond, ◌&&◌, true≢false}
 use mathlib.Core.List.{List, [], ◌∷◌, ◌++◌, append-nil, append_assoc}
-use mathlib.Core.Option.{Option, none, some, map, bind}
 use Prim.Native.Nat.{ℕ, ◌+◌, ◌-◌, ◌*◌, ◌^◌, ◌≤◌, ◌<◌}
 use native.Mathlib.Nat.{sub-zero, not-suc-le-zero, mod-eq_of_lt}
 use native.Mathlib.Omega.{arith}
 use borrow.Author.Tests.{ltb-true, ltb-false, leb-true, le-leb, ne_eqb}
 use lib.Dec.{leb, ltb}
-use lib.ListN.{length, take, drop, get_elem?, length-take, drop_of_length-le}
+use lib.ListN.{length, take, drop, length-take, drop_of_length-le}
 use lib.Seq.{take_all, take-nil}
-use Rattle.bus.specs.declared.OptionU8.{OptionU8}
 use Rattle.bus.specs.declared.part251.LuminaireFormat.{LuminaireFormat}
 use Rattle.bus.specs.Number.{number, low_bytes}
 use Rattle.bus.specs.Part251.{from_format}
@@ -25,16 +24,14 @@ use Rattle.bank.specs.declared.luminaire_write.FieldKind.{FieldKind}
 use Rattle.bank.specs.declared.luminaire_write.FieldKind.TheVariants.{LayoutId, Number, Text}
 use Rattle.bank.specs.declared.luminaire_write.LuminaireField.{LuminaireField}
 use Rattle.bank.specs.declared.luminaire_write.Bank1Layout.{Bank1Layout}
-use Rattle.bank.specs.Options.{option_u16}
 use Rattle.bank.specs.Refusal.{first_of}
 use Rattle.bank.specs.Rules.{shows}
 use Rattle.bank.specs.Fields.{luminaire_fields, field_end, is_text_kind, fits, shown_by, accepts_number, printable, id_in}
 use Rattle.bank.specs.Writable.{format_in}
 use Rattle.records.specs.declared.luminaire_write.Plan.{Plan}
-use Rattle.records.specs.declared.attributes.OptionLuminaireValue.{OptionLuminaireValue}
 use Rattle.records.specs.declared.fixed_text.FixedText.{FixedText}
 use Rattle.records.specs.Places.{field_at, is_there}
-use Rattle.records.specs.Text.{until_zero, limit_of, as_text, text_in}
+use Rattle.records.specs.Text.{until_zero, as_text, text_in}
 use Rattle.records.specs.Luminaire.{a_number, a_text, limit_for, says209, value_in, number_read, reading, having, format_at, read_as, reads}
 use Rattle.records.specs.Writes.{Store, number_for, wanted_number, is_for, terminated, bytes_for, written, single_bytes, write_stores, stores_at, is_staged, Each, InField}
 use Rattle.records.specs.Plan.{plan_checks, stores_of}
@@ -54,21 +51,21 @@ use Rattle.records.proofs.Cutting.{take_again, part, length_part, length_stored,
 abbrev fits_limit : FieldKind → ℕ → Bool
 fits_limit LayoutId n = true
 fits_limit (Number patch r) n = true
-fits_limit (Text t) n = leb n (limit_of (limit_for t))
+fits_limit (Text t) n = leb n (limit_for t)
 
-table_fits : (i : ℕ) {f : LuminaireField} → get_elem? luminaire_fields i ≡ some f → fits_limit f.kind f.len ≡ true
+table_fits : (i : ℕ) {f : LuminaireField} → slice_get luminaire_fields i ≡ Some f → fits_limit f.kind f.len ≡ true
 unfolding luminaire_fields
 table_fits i e = entry_passes (λ (f : LuminaireField). fits_limit f.kind f.len) luminaire_fields i refl e
 
 -- ---- a field's place in a bank, from offset 0
 
-place_of : (bank : List ℕ) (o n : ℕ) → field_at 0 bank o n ≡ cond (leb (o + n) (length bank)) (some (part o n bank)) none
+place_of : (bank : List ℕ) (o n : ℕ) → field_at 0 bank o n ≡ cond (leb (o + n) (length bank)) (Some (part o n bank)) None
 place_of bank o n = rw (le-leb 0 o (omega arith), sub-zero)
 
 same_place : (b c : List ℕ) (o n : ℕ) → length b ≡ length c → part o n b ≡ part o n c → field_at 0 b o n ≡ field_at 0 c o n
 same_place b c o n l e = place_of b o n ∙ (rw (l, e)) ∙ sym (place_of c o n)
 
-present : (bank : List ℕ) (o n : ℕ) → o + n ≤ length bank → field_at 0 bank o n ≡ some (part o n bank)
+present : (bank : List ℕ) (o n : ℕ) → o + n ≤ length bank → field_at 0 bank o n ≡ Some (part o n bank)
 present bank o n h = place_of bank o n ∙ rw (le-leb (o + n) (length bank) h)
 
 -- ---- the reading of a text that was stored whole
@@ -89,28 +86,28 @@ text_behind f text old h l =
 -- ---- an accepted plan
 
 module _ (old : List ℕ) (p : Plan) (text : List ℕ) (is_old : OldBank old) (accepted : Accepted old p text) where
-  sound : first_of (plan_checks p text) ≡ none
+  sound : first_of (plan_checks p text) ≡ None
   sound = passed_plan p text accepted.offsets accepted.values accepted.accepts
 
   abbrev plan_format : Option LuminaireFormat
   plan_format = format_in p.layout.content_format_id
 
   -- the bank's first byte is the layout's last offset
-  last_is : (last : ℕ) × ((p.layout.last_offset ≡ OptionU8.Some last) × (length old ≡ last + 1))
+  last_is : (last : ℕ) × ((p.layout.last_offset ≡ Some last) × (length old ≡ last + 1))
   last_is = go old refl is_old.some_byte
     where
-      go : (l : List ℕ) → old ≡ l → 1 ≤ length l → (last : ℕ) × ((p.layout.last_offset ≡ OptionU8.Some last) × (length old ≡ last + 1))
+      go : (l : List ℕ) → old ≡ l → 1 ≤ length l → (last : ℕ) × ((p.layout.last_offset ≡ Some last) × (length old ≡ last + 1))
       go [] e h = absurd (not-suc-le-zero h)
       go (x ∷ l) e h = (x, (rw (accepted.layout, e), is_old.first_says x (rw e)))
 
   -- a field that may be written is in the bank, and in its format
   record MayWrite (f : LuminaireField) : Type 0 where
     format : LuminaireFormat
-    is_format : plan_format ≡ some format
+    is_format : plan_format ≡ Some format
     has_field : from_format f.since format ≡ true
     inside : f.offset + f.len ≤ length old
 
-  may_write : (i : ℕ) {f : LuminaireField} {bytes : List ℕ} → get_elem? luminaire_fields i ≡ some f → bytes_for f.kind p.numbers p.text_field text i f ≡ some bytes → MayWrite f
+  may_write : (i : ℕ) {f : LuminaireField} {bytes : List ℕ} → slice_get luminaire_fields i ≡ Some f → bytes_for f.kind p.numbers p.text_field text i f ≡ Some bytes → MayWrite f
   may_write i e b =
       let in_it = in_format_lem p text sound i e b in
       record {
@@ -136,46 +133,52 @@ module _ (old : List ℕ) (p : Plan) (text : List ℕ) (is_old : OldBank old) (a
     pub length_cut : length cut ≡ length old
     length_cut = length_stored (take k (stores_of p text)) old
 
-    cut_place : (i : ℕ) {f : LuminaireField} → get_elem? luminaire_fields i ≡ some f → part f.offset f.len cut ≡ part f.offset f.len (stored (mine i f) old)
+    cut_place : (i : ℕ) {f : LuminaireField} → slice_get luminaire_fields i ≡ Some f → part f.offset f.len cut ≡ part f.offset f.len (stored (mine i f) old)
     cut_place i {f} e =
         ap (λ (ss : List Store). part f.offset f.len (stored (take k ss) old)) (by_field p.numbers p.text_field text)
         ∙ window own luminaire_fields table_rises (λ i f _. in_field p.numbers p.text_field text i f) i e k old
 
-    none_made : (i : ℕ) {f : LuminaireField} → get_elem? luminaire_fields i ≡ some f → mine i f ≡ [] → field_at 0 cut f.offset f.len ≡ field_at 0 old f.offset f.len
+    none_made : (i : ℕ) {f : LuminaireField} → slice_get luminaire_fields i ≡ Some f → mine i f ≡ [] → field_at 0 cut f.offset f.len ≡ field_at 0 old f.offset f.len
     none_made i {f} e h = same_place cut old f.offset f.len length_cut (cut_place i e ∙ ap (λ (ss : List Store). part f.offset f.len (stored ss old)) h)
 
     -- the format id has no stores, so the cut bank has the plan's format
     format_cut : format_at 0 cut ≡ plan_format
     unfolding luminaire_fields id_in
     format_cut =
-        ap (λ (o : Option (List ℕ)). format_in (option_u16 (map number o))) (none_made 0 refl (take-nil (k - before p text 0)))
+        ap (λ (o : Option (List ℕ)). format_in (option_map number o)) (none_made 0 refl (take-nil (k - before p text 0)))
         ∙ ap (λ (l : Bank1Layout). format_in l.content_format_id) (sym accepted.layout)
 
     format_old : format_at 0 old ≡ plan_format
     unfolding id_in
     format_old = ap (λ (l : Bank1Layout). format_in l.content_format_id) (sym accepted.layout)
 
-    reads_cut : (i : ℕ) {f : LuminaireField} → get_elem? luminaire_fields i ≡ some f → reads 0 cut i ≡ some (read_as 0 cut plan_format f)
-    reads_cut i e = rw (format_cut, e)
+    -- in that format the fields of both banks are read
+    reads_in : (bank : List ℕ) → format_at 0 bank ≡ plan_format → (i : ℕ) {f : LuminaireField} → slice_get luminaire_fields i ≡ Some f
+        → reads 0 bank i ≡ Some (reading f.kind (having f plan_format) (field_at 0 bank f.offset f.len))
+    reads_in bank is i {f} e =
+        ap (option_map (read_as 0 bank)) e
+        ∙ ap (λ (v : Option LuminaireFormat). Some (reading f.kind (having f v) (field_at 0 bank f.offset f.len))) is
 
     -- a field with no store made reads as before
-    unchanged : (i : ℕ) {f : LuminaireField} → get_elem? luminaire_fields i ≡ some f → mine i f ≡ [] → reads 0 cut i ≡ reads 0 old i
-    unchanged i {f} e h = reads_cut i e ∙ ap (λ (o : Option (List ℕ)). some (reading f.kind (having f plan_format) o)) (none_made i e h) ∙ sym (rw (format_old, e))
+    unchanged : (i : ℕ) {f : LuminaireField} → slice_get luminaire_fields i ≡ Some f → mine i f ≡ [] → reads 0 cut i ≡ reads 0 old i
+    unchanged i {f} e h =
+        reads_in cut format_cut i e
+        ∙ ap (λ (o : Option (List ℕ)). Some (reading f.kind (having f plan_format) o)) (none_made i e h)
+        ∙ sym (reads_in old format_old i e)
 
     -- one that may be written is present
-    reads_there : (i : ℕ) {f : LuminaireField} {bytes : List ℕ} → get_elem? luminaire_fields i ≡ some f → (m : MayWrite f) → part f.offset f.len (stored (mine i f) old) ≡ bytes
-        → reads 0 cut i ≡ some (reading f.kind (some m.format) (some bytes))
-    unfolding bind
+    reads_there : (i : ℕ) {f : LuminaireField} {bytes : List ℕ} → slice_get luminaire_fields i ≡ Some f → (m : MayWrite f) → part f.offset f.len (stored (mine i f) old) ≡ bytes
+        → reads 0 cut i ≡ Some (reading f.kind (Some m.format) (Some bytes))
     reads_there i {f} {bytes} e m h =
-        let here : field_at 0 cut f.offset f.len ≡ some bytes = present cut f.offset f.len (rw length_cut m.inside) ∙ ap some (cut_place i e ∙ h) in
-        let has : having f plan_format ≡ some m.format = rw (m.is_format, m.has_field) in
-        reads_cut i e ∙ ap (λ (v : Option LuminaireFormat). some (reading f.kind v (field_at 0 cut f.offset f.len))) has ∙ ap (λ (o : Option (List ℕ)). some (reading f.kind (some m.format) o)) here
+        let here : field_at 0 cut f.offset f.len ≡ Some bytes = present cut f.offset f.len (rw length_cut m.inside) ∙ ap Some (cut_place i e ∙ h) in
+        let has : having f plan_format ≡ Some m.format = rw (m.is_format, m.has_field) in
+        reads_in cut format_cut i e ∙ ap (λ (v : Option LuminaireFormat). Some (reading f.kind v (field_at 0 cut f.offset f.len))) has ∙ ap (λ (o : Option (List ℕ)). Some (reading f.kind (Some m.format) o)) here
 
     -- ---- a number
 
-    module _ (i : ℕ) {f : LuminaireField} (e : get_elem? luminaire_fields i ≡ some f) (patch : ℕ) (r : NumberRule) (kind : f.kind ≡ Number patch r) (value : ℕ) (w : number_for p.numbers patch ≡ some value) where
-      number_bytes_lem : bytes_for f.kind p.numbers p.text_field text i f ≡ some (low_bytes f.len value)
-      number_bytes_lem = ap (λ (k : FieldKind). bytes_for k p.numbers p.text_field text i f) kind ∙ ap (map (low_bytes f.len)) (ap (wanted_number p.numbers) kind ∙ w)
+    module _ (i : ℕ) {f : LuminaireField} (e : slice_get luminaire_fields i ≡ Some f) (patch : ℕ) (r : NumberRule) (kind : f.kind ≡ Number patch r) (value : ℕ) (w : number_for p.numbers patch ≡ Some value) where
+      number_bytes_lem : bytes_for f.kind p.numbers p.text_field text i f ≡ Some (low_bytes f.len value)
+      number_bytes_lem = ap (λ (k : FieldKind). bytes_for k p.numbers p.text_field text i f) kind ∙ ap (option_map (low_bytes f.len)) (ap (wanted_number p.numbers) kind ∙ w)
 
       may_number : MayWrite f
       may_number = may_write i e number_bytes_lem
@@ -186,14 +189,13 @@ module _ (old : List ℕ) (p : Plan) (text : List ℕ) (is_old : OldBank old) (a
           ∙ (staged i f).other (low_bytes f.len value) (ap (λ (k : FieldKind). is_staged k (length (low_bytes f.len value))) kind)
 
       -- bytes that are read in the plan's format
-      number_reading : {bytes : List ℕ} → part f.offset f.len (stored (mine i f) old) ≡ bytes → reads 0 cut i ≡ some (a_number (number_read r plan_format (some bytes)))
+      number_reading : {bytes : List ℕ} → part f.offset f.len (stored (mine i f) old) ≡ bytes → reads 0 cut i ≡ Some (a_number (number_read r plan_format (Some bytes)))
       number_reading {bytes} h =
           reads_there i e may_number h
-          ∙ ap (λ (k : FieldKind). some (reading k (some may_number.format) (some bytes))) kind
-          ∙ ap (λ (v : Option LuminaireFormat). some (a_number (number_read r v (some bytes)))) (sym may_number.is_format)
+          ∙ ap (λ (k : FieldKind). Some (reading k (Some may_number.format) (Some bytes))) kind
+          ∙ ap (λ (v : Option LuminaireFormat). Some (a_number (number_read r v (Some bytes)))) (sym may_number.is_format)
 
-      number_wanted : wanted p text i ≡ some (a_number (number_read r plan_format (some (low_bytes f.len value))))
-      unfolding bind
+      number_wanted : wanted p text i ≡ Some (a_number (number_read r plan_format (Some (low_bytes f.len value))))
       number_wanted = (rw e) ∙ ap (wanted_of p text i f) kind ∙ (rw w)
 
       number_whole : mine i f ≡ own i f → reads 0 cut i ≡ wanted p text i
@@ -208,7 +210,6 @@ module _ (old : List ℕ) (p : Plan) (text : List ℕ) (is_old : OldBank old) (a
           ∙ sym number_wanted
 
       number_begun : reads 0 cut i ≡ begun p text old (length (mine i f)) i
-      unfolding bind
       number_begun =
           let bytes = low_bytes f.len value in
           let j = k - before p text i in
@@ -222,7 +223,7 @@ module _ (old : List ℕ) (p : Plan) (text : List ℕ) (is_old : OldBank old) (a
 
     -- ---- a text
 
-    module _ (i : ℕ) {f : LuminaireField} (e : get_elem? luminaire_fields i ≡ some f) (t : LuminaireTextField) (kind : f.kind ≡ Text t) (w : is_for p.text_field i ≡ true) where
+    module _ (i : ℕ) {f : LuminaireField} (e : slice_get luminaire_fields i ≡ Some f) (t : LuminaireTextField) (kind : f.kind ≡ Text t) (w : is_for p.text_field i ≡ true) where
       bytes : List ℕ
       bytes = terminated f text
 
@@ -230,16 +231,15 @@ module _ (old : List ℕ) (p : Plan) (text : List ℕ) (is_old : OldBank old) (a
       unfolding bytes
       short = rw length-take (omega arith)
 
-      text_bytes_lem : bytes_for f.kind p.numbers p.text_field text i f ≡ some bytes
+      text_bytes_lem : bytes_for f.kind p.numbers p.text_field text i f ≡ Some bytes
       unfolding bytes
       text_bytes_lem = ap (λ (k : FieldKind). bytes_for k p.numbers p.text_field text i f) kind ∙ (rw w)
 
       may_text : MayWrite f
       may_text = may_write i e text_bytes_lem
 
-      text_reading : {part_is : List ℕ} → part f.offset f.len (stored (mine i f) old) ≡ part_is → reads 0 cut i ≡ some (a_text (text_in (limit_for t) (some part_is)))
-      unfolding bind
-      text_reading {part_is} h = reads_there i e may_text h ∙ ap (λ (k : FieldKind). some (reading k (some may_text.format) (some part_is))) kind
+      text_reading : {part_is : List ℕ} → part f.offset f.len (stored (mine i f) old) ≡ part_is → reads 0 cut i ≡ Some (a_text (text_in (limit_for t) (Some part_is)))
+      text_reading {part_is} h = reads_there i e may_text h ∙ ap (λ (k : FieldKind). Some (reading k (Some may_text.format) (Some part_is))) kind
 
       -- all its stores made, its place begins with its bytes
       made_whole : (bs : List ℕ) → length bs ≤ f.len → part f.offset f.len (stored (write_stores (written i f bs)) old) ≡ bs ++ drop (length bs) (part f.offset f.len old)
@@ -273,8 +273,7 @@ module _ (old : List ℕ) (p : Plan) (text : List ℕ) (is_old : OldBank old) (a
       text_stores : own i f ≡ write_stores (written i f bytes)
       text_stores = stores_of_write p.numbers p.text_field text i f text_bytes_lem
 
-      text_wanted : wanted p text i ≡ some (a_text (as_text (limit_for t) text))
-      unfolding bind
+      text_wanted : wanted p text i ≡ Some (a_text (as_text (limit_for t) text))
       text_wanted = (rw e) ∙ ap (wanted_of p text i f) kind ∙ (rw w)
 
       text_whole : mine i f ≡ own i f → reads 0 cut i ≡ wanted p text i
@@ -283,14 +282,13 @@ module _ (old : List ℕ) (p : Plan) (text : List ℕ) (is_old : OldBank old) (a
           let few_and_plain = second_true (is_text_kind f.kind) (leb (length text) f.len && printable text) (accepted_text p text sound i e w) in
           let few = leb-true (length text) f.len (first_true (leb (length text) f.len) (printable text) few_and_plain) in
           let plain = second_true (leb (length text) f.len) (printable text) few_and_plain in
-          let limit : f.len ≤ limit_of (limit_for t) = leb-true f.len (limit_of (limit_for t)) (ap (λ (k : FieldKind). fits_limit k f.len) (sym kind) ∙ table_fits i e) in
+          let limit : f.len ≤ limit_for t = leb-true f.len (limit_for t) (ap (λ (k : FieldKind). fits_limit k f.len) (sym kind) ∙ table_fits i e) in
           let ends = text_behind f text (part f.offset f.len old) few (length_part f.offset f.len old may_text.inside) in
           text_reading (ap (λ (ss : List Store). part f.offset f.len (stored ss old)) (all ∙ text_stores) ∙ made_whole bytes short ∙ ends.1.0)
-          ∙ ap (λ (x : FixedText). some (a_text x)) (printable_reads_as_itself (limit_for t) text ends.0 plain (omega arith) ends.1.1)
+          ∙ ap (λ (x : Option (FixedText (limit_for t))). Some (a_text x)) (printable_reads_as_itself (limit_for t) text ends.0 plain (omega arith) ends.1.1)
           ∙ sym text_wanted
 
       text_begun : 1 ≤ length (mine i f) → length (mine i f) < length (own i f) → reads 0 cut i ≡ begun p text old (length (mine i f)) i
-      unfolding bind
       text_begun a b =
           let j = k - before p text i in
           let z = made_some bytes (length (mine i f)) short a (subst (λ (ss : List Store). length (mine i f) < length ss) text_stores b) in
@@ -298,22 +296,21 @@ module _ (old : List ℕ) (p : Plan) (text : List ℕ) (is_old : OldBank old) (a
           (ap (λ (ss : List Store). part f.offset f.len (stored ss old)) (sym (take_again j (own i f)))
           ∙ ap (λ (ss : List Store). part f.offset f.len (stored (take (length (mine i f)) ss) old)) text_stores
           ∙ z.1)
-          ∙ ap (λ (x : FixedText). some (a_text x)) (zero_reads_empty (limit_for t) z.0)
+          ∙ ap (λ (x : Option (FixedText (limit_for t))). Some (a_text x)) (zero_reads_empty (limit_for t) z.0)
           ∙ sym ((rw e) ∙ ap (begun_of p text old (length (mine i f)) f) kind)
 
     -- ---- every field
 
     -- what is wanted of a field: nothing, a number or a text
     data Wants (i : ℕ) (f : LuminaireField) : Type 0 where
-      nothing : own i f ≡ [] → wanted p text i ≡ none → Wants i f
-      wants_number : (patch : ℕ) (r : NumberRule) → f.kind ≡ Number patch r → (value : ℕ) → number_for p.numbers patch ≡ some value → Wants i f
+      nothing : own i f ≡ [] → wanted p text i ≡ None → Wants i f
+      wants_number : (patch : ℕ) (r : NumberRule) → f.kind ≡ Number patch r → (value : ℕ) → number_for p.numbers patch ≡ Some value → Wants i f
       wants_text : (t : LuminaireTextField) → f.kind ≡ Text t → is_for p.text_field i ≡ true → Wants i f
 
-    wants : (i : ℕ) {f : LuminaireField} → get_elem? luminaire_fields i ≡ some f → Wants i f
-    unfolding bind
+    wants : (i : ℕ) {f : LuminaireField} → slice_get luminaire_fields i ≡ Some f → Wants i f
     wants i {f} e = by_kind f.kind refl
       where
-        not_wanted : (k : FieldKind) → f.kind ≡ k → bytes_for k p.numbers p.text_field text i f ≡ none → wanted_of p text i f k ≡ none → Wants i f
+        not_wanted : (k : FieldKind) → f.kind ≡ k → bytes_for k p.numbers p.text_field text i f ≡ None → wanted_of p text i f k ≡ None → Wants i f
         not_wanted k is no_bytes no_reading =
             nothing (stores_of_none p.numbers p.text_field text i f (ap (λ (k : FieldKind). bytes_for k p.numbers p.text_field text i f) is ∙ no_bytes))
             ((rw e) ∙ ap (wanted_of p text i f) is ∙ no_reading)
@@ -323,14 +320,14 @@ module _ (old : List ℕ) (p : Plan) (text : List ℕ) (is_old : OldBank old) (a
         by_kind (Number patch r) is = by_number (number_for p.numbers patch) refl
           where
             by_number : (o : Option ℕ) → number_for p.numbers patch ≡ o → Wants i f
-            by_number none w = not_wanted (Number patch r) is (ap (map (low_bytes f.len)) (ap (wanted_number p.numbers) is ∙ w)) (rw w)
-            by_number (some value) w = wants_number patch r is value w
+            by_number None w = not_wanted (Number patch r) is (ap (option_map (low_bytes f.len)) (ap (wanted_number p.numbers) is ∙ w)) (rw w)
+            by_number (Some value) w = wants_number patch r is value w
         by_kind (Text t) is =
             by_test (is_for p.text_field i)
             (λ w. wants_text t is w)
             (λ w. not_wanted (Text t) is (rw w) (rw w))
 
-    is_wanted : (i : ℕ) {f : LuminaireField} (e : get_elem? luminaire_fields i ≡ some f) → 1 ≤ length (own i f) → is_there (wanted p text i) ≡ true
+    is_wanted : (i : ℕ) {f : LuminaireField} (e : slice_get luminaire_fields i ≡ Some f) → 1 ≤ length (own i f) → is_there (wanted p text i) ≡ true
     is_wanted i {f} e h = go (wants i e)
       where
         go : Wants i f → is_there (wanted p text i) ≡ true
@@ -338,7 +335,7 @@ module _ (old : List ℕ) (p : Plan) (text : List ℕ) (is_old : OldBank old) (a
         go (wants_number patch r is value w) = ap is_there (number_wanted i e patch r is value w)
         go (wants_text t is w) = ap is_there (text_wanted i e t is w)
 
-    reads_whole : (i : ℕ) {f : LuminaireField} (e : get_elem? luminaire_fields i ≡ some f) → is_there (wanted p text i) ≡ true → mine i f ≡ own i f → reads 0 cut i ≡ wanted p text i
+    reads_whole : (i : ℕ) {f : LuminaireField} (e : slice_get luminaire_fields i ≡ Some f) → is_there (wanted p text i) ≡ true → mine i f ≡ own i f → reads 0 cut i ≡ wanted p text i
     reads_whole i {f} e there all = go (wants i e)
       where
         go : Wants i f → reads 0 cut i ≡ wanted p text i
@@ -346,7 +343,7 @@ module _ (old : List ℕ) (p : Plan) (text : List ℕ) (is_old : OldBank old) (a
         go (wants_number patch r is value w) = number_whole i e patch r is value w all
         go (wants_text t is w) = text_whole i e t is w all
 
-    reads_begun : (i : ℕ) {f : LuminaireField} (e : get_elem? luminaire_fields i ≡ some f) → 1 ≤ length (mine i f) → length (mine i f) < length (own i f) → reads 0 cut i ≡ begun p text old (length (mine i f)) i
+    reads_begun : (i : ℕ) {f : LuminaireField} (e : slice_get luminaire_fields i ≡ Some f) → 1 ≤ length (mine i f) → length (mine i f) < length (own i f) → reads 0 cut i ≡ begun p text old (length (mine i f)) i
     reads_begun i {f} e a b = go (wants i e)
       where
         go : Wants i f → reads 0 cut i ≡ begun p text old (length (mine i f)) i
@@ -357,32 +354,31 @@ module _ (old : List ℕ) (p : Plan) (text : List ℕ) (is_old : OldBank old) (a
     -- ---- by index
 
     pub cut_whole : (i : ℕ) → AllMade p text k i → reads 0 cut i ≡ wanted p text i
-    unfolding bind
-    cut_whole i m = go (get_elem? luminaire_fields i) refl
+    cut_whole i m = go (slice_get luminaire_fields i) refl
       where
-        go : (o : Option LuminaireField) → get_elem? luminaire_fields i ≡ o → reads 0 cut i ≡ wanted p text i
-        go none e = absurd (true≢false (sym (rw e at m.is_planned)))
-        go (some f) e = reads_whole i e m.is_planned (rw e at m.all)
+        go : (o : Option LuminaireField) → slice_get luminaire_fields i ≡ o → reads 0 cut i ≡ wanted p text i
+        go None e = absurd (true≢false (sym (rw e at m.is_planned)))
+        go (Some f) e = reads_whole i e m.is_planned (rw e at m.all)
 
     pub cut_begun : (i : ℕ) → Begun p text k i → reads 0 cut i ≡ begun p text old (length (taken_in p text k i)) i
-    cut_begun i m = go (get_elem? luminaire_fields i) refl
+    cut_begun i m = go (slice_get luminaire_fields i) refl
       where
-        go : (o : Option LuminaireField) → get_elem? luminaire_fields i ≡ o → reads 0 cut i ≡ begun p text old (length (taken_in p text k i)) i
-        go none e = let z : ⊥ = omega (arith, (rw e at m.not_all)) in absurd z
-        go (some f) e =
+        go : (o : Option LuminaireField) → slice_get luminaire_fields i ≡ o → reads 0 cut i ≡ begun p text old (length (taken_in p text k i)) i
+        go None e = let z : ⊥ = omega (arith, (rw e at m.not_all)) in absurd z
+        go (Some f) e =
             let taken : taken_in p text k i ≡ mine i f = rw e in
             reads_begun i e (rw e at m.takes_one) (rw e at m.not_all) ∙ ap (λ (ss : List Store). begun p text old (length ss) i) (sym taken)
 
     pub cut_others : (i : ℕ) → (AllMade p text k i → ⊥) → (Begun p text k i → ⊥) → reads 0 cut i ≡ reads 0 old i
-    cut_others i not_whole not_begun = go (get_elem? luminaire_fields i) refl
+    cut_others i not_whole not_begun = go (slice_get luminaire_fields i) refl
       where
         no_elements : (ss : List Store) → length ss ≤ 0 → ss ≡ []
         no_elements [] h = refl
         no_elements (s ∷ ss) h = let z : ⊥ = omega arith in absurd z
 
-        go : (o : Option LuminaireField) → get_elem? luminaire_fields i ≡ o → reads 0 cut i ≡ reads 0 old i
-        go none e = rw e
-        go (some f) e =
+        go : (o : Option LuminaireField) → slice_get luminaire_fields i ≡ o → reads 0 cut i ≡ reads 0 old i
+        go None e = rw e
+        go (Some f) e =
             by_test (ltb 0 (length (mine i f)))
             (λ t.
             let one = ltb-true 0 (length (mine i f)) t in
@@ -405,18 +401,18 @@ module _ (old : List ℕ) (p : Plan) (text : List ℕ) (is_old : OldBank old) (a
         (λ u. omega (arith, ltb-false i j t, ltb-false j i u)))
       where
         not_both : (i j : ℕ) → i < j → Begun p text k i → Begun p text k j → ⊥
-        not_both i j l a b = go (get_elem? luminaire_fields i) (get_elem? luminaire_fields j) refl refl
+        not_both i j l a b = go (slice_get luminaire_fields i) (slice_get luminaire_fields j) refl refl
           where
-            go : (o q : Option LuminaireField) → get_elem? luminaire_fields i ≡ o → get_elem? luminaire_fields j ≡ q → ⊥
-            go none q e d = omega (arith, (rw e at a.not_all))
-            go (some f) none e d = omega (arith, (rw d at b.not_all))
-            go (some f) (some h) e d =
+            go : (o q : Option LuminaireField) → slice_get luminaire_fields i ≡ o → slice_get luminaire_fields j ≡ q → ⊥
+            go None q e d = omega (arith, (rw e at a.not_all))
+            go (Some f) None e d = omega (arith, (rw d at b.not_all))
+            go (Some f) (Some h) e d =
                 let turn = in_turn own luminaire_fields i j e d l in
                 let first : length (mine i f) < length (own i f) = rw e at a.not_all in
                 let second : 1 ≤ length (mine j h) = rw d at b.takes_one in
                 omega (arith, length-take (k - before p text i) (own i f), length-take (k - before p text j) (own j h))
 
-    pub cut_outside : (j : ℕ) → ((i : ℕ) (f : LuminaireField) → get_elem? luminaire_fields i ≡ some f → f.offset ≤ j → j < field_end f → ⊥) → get_elem? cut j ≡ get_elem? old j
+    pub cut_outside : (j : ℕ) → ((i : ℕ) (f : LuminaireField) → slice_get luminaire_fields i ≡ Some f → f.offset ≤ j → j < field_end f → ⊥) → slice_get cut j ≡ slice_get old j
     cut_outside j out =
         stored_elsewhere j (take k (stores_of p text)) old
         (each_take (λ (s : Store). j ≢ s.offset) k (stores_of p text)
@@ -425,12 +421,12 @@ module _ (old : List ℕ) (p : Plan) (text : List ℕ) (is_old : OldBank old) (a
         (λ i f e. each_map (InField f) (λ (s : Store). j ≢ s.offset) (λ s a is. out i f e (subst (λ (n : ℕ). f.offset ≤ n) (sym is) a.0) (subst (λ (n : ℕ). n < field_end f) (sym is) a.1)) (own i f) (in_field p.numbers p.text_field text i f)))))
 
 pub every_field_has_its_share : EveryFieldHasItsShare
-every_field_has_its_share p text k i = go (get_elem? luminaire_fields i) refl
+every_field_has_its_share p text k i = go (slice_get luminaire_fields i) refl
   where
-    go : (o : Option LuminaireField) → get_elem? luminaire_fields i ≡ o
+    go : (o : Option LuminaireField) → slice_get luminaire_fields i ≡ o
         → take (length (stores_for p text i)) (drop (before p text i) (take k (stores_of p text))) ≡ taken_in p text k i
-    go none e = rw e (sym (take-nil (k - before p text i)))
-    go (some f) e =
+    go None e = rw e (sym (take-nil (k - before p text i)))
+    go (Some f) e =
         rw (e, by_field p.numbers p.text_field text)
         (share (stores_at p.numbers p.text_field text) luminaire_fields table_rises (λ i f _. in_field p.numbers p.text_field text i f) i e k)
 
@@ -449,11 +445,10 @@ no_209 LightDistributionType v n t = refl
 no_209 LampCurrent v n t = refl
 
 pub every_wanted_number_shown : EveryWantedNumberShown
-unfolding bind
 every_wanted_number_shown old p text is_old accepted i f patch r value e kind w =
     number_wanted old p text is_old accepted 0 i e patch r kind value w
-    ∙ ap (λ (o : Option LuminaireFormat). some (a_number (number_read r o (some (low_bytes f.len value))))) may.is_format
-    ∙ ap (λ (n : ℕ). some (a_number (OptionLuminaireValue.Some (value_in r may.format n)))) (number_low_bytes f.len value ∙ mod-eq_of_lt small)
+    ∙ ap (λ (o : Option LuminaireFormat). Some (a_number (number_read r o (Some (low_bytes f.len value))))) may.is_format
+    ∙ ap (λ (n : ℕ). Some (a_number (Some (value_in r may.format n)))) (number_low_bytes f.len value ∙ mod-eq_of_lt small)
     ∙ (rw (shown, no_209 r may.format value shown))
   where
     may : MayWrite old p text is_old accepted f

@@ -1,18 +1,18 @@
 -- Laws of stores in a bank that are cut, for any stores that stand in their own fields: a bank seen through a field's place
 -- has what the cut takes in of that field's stores.
 -- Assumes nothing.
+use Rattle.std.proofs.lemmas.Option.{same_Some}
+use Rattle.std.specs.Prelude.{Some, slice_get}
 use mathlib.Core.Path.{◌≡◌, refl, sym, ap, ◌∙◌, subst}
 use mathlib.Core.Logic.{◌≢◌}
 use mathlib.Core.List.{List, [], ◌∷◌, ◌++◌, append_assoc}
-use mathlib.Core.Option.{some, some-injective}
 use Prim.Native.Nat.{ℕ, zero, suc, ◌+◌, ◌-◌, ◌≤◌, ◌<◌}
 use native.Mathlib.Nat.{sub-zero, zero-sub, suc-sub-suc, add-zero, zero-add, not-suc-le-zero}
-use native.Mathlib.Numerals.{add-one}
 use native.Mathlib.Omega.{arith}
 use borrow.Author.Tests.{ltb-true, ltb-false}
 use lib.Dec.{ltb}
-use lib.ListN.{length, take, drop, set, get_or, get_elem?, length-set, length-append, length-take, length-drop, drop_of_length-le}
-use lib.Seq.{sets, sets-eq, take-nil, take_all, take-length, drop-nil, drop-cons, drop-set-lt, drop-set-add, take-set-lt, take-set-le, take-append_seam, take-append-le, drop-append_seam}
+use lib.ListN.{length, take, drop, set, length-set, length-append, length-take, length-drop}
+use lib.Seq.{sets, sets-eq, take-nil, take_all, take-length, drop-nil, drop-set-lt, drop-set-add, take-set-lt, take-set-le, take-append_seam, take-append-le, drop-append_seam}
 use Rattle.bus.proofs.Lists.{no_element, sets_cons}
 use Rattle.bus.proofs.Tests.{by_test}
 use Rattle.bank.specs.declared.luminaire_write.LuminaireField.{LuminaireField}
@@ -192,11 +192,11 @@ module _ (o n : ℕ) (bank : List ℕ) (fits : o + n ≤ length bank) where
         headed_front (z ∷ l) k = ap (λ (r : List ℕ). set r 0 x) (sets_cons 0 l 0 (y ∷ ys)) ∙ ap (λ (r : List ℕ). x ∷ r) (sets_front (y ∷ ys) l (omega arith))
 
 -- a byte at no store is as before
-pub stored_elsewhere : (j : ℕ) (ss : List Store) (bank : List ℕ) → Each (λ (s : Store). j ≢ s.offset) ss → get_elem? (stored ss bank) j ≡ get_elem? bank j
+pub stored_elsewhere : (j : ℕ) (ss : List Store) (bank : List ℕ) → Each (λ (s : Store). j ≢ s.offset) ss → slice_get (stored ss bank) j ≡ slice_get bank j
 stored_elsewhere j [] bank a = refl
 stored_elsewhere j (s ∷ ss) bank a = stored_elsewhere j ss (set bank s.offset s.value) a.1 ∙ other bank s.offset j s.value a.0
   where
-    other : (l : List ℕ) (i j v : ℕ) → j ≢ i → get_elem? (set l i v) j ≡ get_elem? l j
+    other : (l : List ℕ) (i j v : ℕ) → j ≢ i → slice_get (set l i v) j ≡ slice_get l j
     other [] i j v h = refl
     other (x ∷ l) zero zero v h = absurd (h refl)
     other (x ∷ l) zero (suc j) v h = refl
@@ -206,11 +206,11 @@ stored_elsewhere j (s ∷ ss) bank a = stored_elsewhere j ss (set bank s.offset 
 -- ---- the stores of fields, one after the other, each field's in its own place
 
 abbrev pub InFields : (ℕ → LuminaireField → List Store) → List LuminaireField → Type 0
-InFields g fs = (i : ℕ) (f : LuminaireField) → get_elem? fs i ≡ some f → Each (InField f) (g i f)
+InFields g fs = (i : ℕ) (f : LuminaireField) → slice_get fs i ≡ Some f → Each (InField f) (g i f)
 
-later : (z : ℕ) (fs : List LuminaireField) → Sorted z fs → (i : ℕ) {f : LuminaireField} → get_elem? fs i ≡ some f → z ≤ f.offset
+later : (z : ℕ) (fs : List LuminaireField) → Sorted z fs → (i : ℕ) {f : LuminaireField} → slice_get fs i ≡ Some f → z ≤ f.offset
 later z [] s i e = no_element e
-later z (g ∷ fs) s zero e = subst (λ (f : LuminaireField). z ≤ f.offset) (some-injective _ _ e) s.0
+later z (g ∷ fs) s zero e = subst (λ (f : LuminaireField). z ≤ f.offset) (same_Some _ _ e) s.0
 later z (g ∷ fs) s (suc i) e = omega (arith, s.0, later (field_end g) fs s.1 i e)
 
 -- a field's stores among all: those before stand before its place, those behind stand behind it
@@ -220,10 +220,10 @@ pub record Split (g : ℕ → LuminaireField → List Store) (fs : List Luminair
   pub ends_before : Each (λ (s : Store). s.offset < f.offset) (gather g (take i fs))
   pub starts_behind : Each (λ (s : Store). field_end f ≤ s.offset) behind
 
-pub split : (g : ℕ → LuminaireField → List Store) (z : ℕ) (fs : List LuminaireField) → Sorted z fs → InFields g fs → (i : ℕ) {f : LuminaireField} → get_elem? fs i ≡ some f → Split g fs i f
+pub split : (g : ℕ → LuminaireField → List Store) (z : ℕ) (fs : List LuminaireField) → Sorted z fs → InFields g fs → (i : ℕ) {f : LuminaireField} → slice_get fs i ≡ Some f → Split g fs i f
 split g z [] s w i e = no_element e
 split g z (h ∷ fs) s w zero e =
-    subst (Split g (h ∷ fs) 0) (some-injective _ _ e)
+    subst (Split g (h ∷ fs) 0) (same_Some _ _ e)
     (record {
       behind = gather (λ i. g (suc i)) fs;
       is = refl;
@@ -244,7 +244,7 @@ split g z (h ∷ fs) s w (suc i) {f} e =
       starts_behind = r.starts_behind;
     }
 
-module _ (g : ℕ → LuminaireField → List Store) (fs : List LuminaireField) (s : Sorted 0 fs) (w : InFields g fs) (i : ℕ) {f : LuminaireField} (e : get_elem? fs i ≡ some f) where
+module _ (g : ℕ → LuminaireField → List Store) (fs : List LuminaireField) (s : Sorted 0 fs) (w : InFields g fs) (i : ℕ) {f : LuminaireField} (e : slice_get fs i ≡ Some f) where
   own : Split g fs i f
   own = split g 0 fs s w i e
 
@@ -271,23 +271,14 @@ module _ (g : ℕ → LuminaireField → List Store) (fs : List LuminaireField) 
       ∙ take_share (k - length front) (g i f) own.behind
 
 -- the stores of a field end in the list where those of a later one begin, or before
-pub in_turn : (g : ℕ → LuminaireField → List Store) (fs : List LuminaireField) (i j : ℕ) {f h : LuminaireField} → get_elem? fs i ≡ some f → get_elem? fs j ≡ some h → i < j
+pub in_turn : (g : ℕ → LuminaireField → List Store) (fs : List LuminaireField) (i j : ℕ) {f h : LuminaireField} → slice_get fs i ≡ Some f → slice_get fs j ≡ Some h → i < j
     → length (gather g (take i fs)) + length (g i f) ≤ length (gather g (take j fs))
 in_turn g [] i j e d l = no_element e
 in_turn g (x ∷ fs) i zero e d l = absurd (not-suc-le-zero l)
-in_turn g (x ∷ fs) zero (suc j) e d l = simp length-append (omega (arith, ap (λ (f : LuminaireField). length (g 0 f)) (some-injective _ _ e)))
+in_turn g (x ∷ fs) zero (suc j) e d l = simp length-append (omega (arith, ap (λ (f : LuminaireField). length (g 0 f)) (same_Some _ _ e)))
 in_turn g (x ∷ fs) (suc i) (suc j) e d l = simp length-append (omega (arith, in_turn (λ i. g (suc i)) fs i j e d (omega arith)))
 
 -- ---- stores that stand in two slices
-
--- one more is made
-pub store_next : (os vs bank : List ℕ) (i : ℕ) → i < length os → i < length vs
-    → stored_at (drop i os) (drop i vs) bank ≡ stored_at (drop (i + 1) os) (drop (i + 1) vs) (set bank (get_or os i 0) (get_or vs i 0))
-store_next os vs bank i h k = rw (drop-cons os i 0 h, drop-cons vs i 0 k, add-one)
-
--- all are made
-pub stores_done : (os vs bank : List ℕ) (i : ℕ) → length os ≤ i → stored_at (drop i os) (drop i vs) bank ≡ bank
-stores_done os vs bank i h = rw (drop_of_length-le os {i = i} h)
 
 -- those of a list
 pub members_stored : (ss : List Store) (bank : List ℕ) → stored_at (offsets_of ss) (values_of ss) bank ≡ stored ss bank

@@ -1,12 +1,15 @@
 -- Laws of what the fields give one after the other, and of what a list's elements give.
 -- Assumes nothing.
+use Rattle.std.proofs.lemmas.Option.{same_Some}
+use Rattle.std.specs.Prelude.{Some, slice_get}
 use mathlib.Core.Path.{◌≡◌, refl, sym, ap, ◌∙◌, subst}
 use mathlib.Core.List.{List, [], ◌∷◌, ◌++◌, append_assoc, append-nil}
-use mathlib.Core.Option.{none, some, some-injective}
-use Prim.Native.Nat.{ℕ, zero, suc, ◌<◌}
+use Prim.Native.Nat.{ℕ, zero, suc, ◌+◌, ◌≤◌, ◌<◌}
+use native.Mathlib.Numerals.{add-one}
+use native.Mathlib.Omega.{arith}
 use native.Mathlib.Nat.{le_of_suc-le-suc, not-suc-le-zero, suc_inj, suc-ne-zero}
-use lib.ListN.{length, take, get_or, get_elem?}
-use lib.Seq.{take-nil}
+use Rattle.std.proofs.lemmas.List.{take_more}
+use lib.ListN.{length, take, drop, get_or, length-append, take-append-drop}
 use Rattle.bus.proofs.Lists.{no_element}
 use Rattle.bank.specs.declared.luminaire_write.LuminaireField.{LuminaireField}
 use Rattle.records.specs.Writes.{gather, flat, Each}
@@ -16,16 +19,15 @@ module _ {A B : Type 0} (g : A → List B) where
   flat_append [] ys = refl
   flat_append (x ∷ xs) ys = ap (λ (r : List B). g x ++ r) (flat_append xs ys) ∙ sym (append_assoc (g x) (flat g xs) (flat g ys))
 
-  -- one more element, where there is one
-  pub flat_next : (xs : List A) (i : ℕ) {x : A} → get_elem? xs i ≡ some x → flat g (take (suc i) xs) ≡ flat g (take i xs) ++ g x
-  flat_next [] i e = no_element e
-  flat_next (y ∷ xs) zero e = append-nil (g y) ∙ (let same : y ≡ _ = cc in ap g same)
-  flat_next (y ∷ xs) (suc i) {x} e = ap (λ (r : List B). g y ++ r) (flat_next xs i e) ∙ sym (append_assoc (g y) (flat g (take i xs)) (g x))
+  -- one more element, and how much all give at least
+  module _ (xs : List A) (i : ℕ) (d : A) (h : i < length xs) where
+    pub flat_next : flat g (take (i + 1) xs) ≡ flat g (take i xs) ++ g (get_or xs i d)
+    flat_next = rw (take_more xs i d h) (flat_append (take i xs) (get_or xs i d ∷ []) ∙ rw append-nil)
 
-  pub flat_done : (xs : List A) (i : ℕ) → get_elem? xs i ≡ none → flat g (take (suc i) xs) ≡ flat g (take i xs)
-  flat_done [] i e = rw take-nil
-  flat_done (y ∷ xs) zero e = no_element (sym e)
-  flat_done (y ∷ xs) (suc i) e = ap (λ (r : List B). g y ++ r) (flat_done xs i e)
+    pub flat_room : length (flat g (take i xs)) + length (g (get_or xs i d)) ≤ length (flat g xs)
+    flat_room =
+        let all : flat g xs ≡ flat g (take (i + 1) xs) ++ flat g (drop (i + 1) xs) = ap (flat g) (sym (take-append-drop (i + 1) xs)) ∙ flat_append (take (i + 1) xs) (drop (i + 1) xs) in
+        rw (all, flat_next) (simp length-append (omega arith))
 
 pub flat_gather : {A B : Type 0} (h : A → List B) (g : ℕ → LuminaireField → List A) (fs : List LuminaireField) → flat h (gather g fs) ≡ gather (λ i f. flat h (g i f)) fs
 flat_gather h g [] = refl
@@ -33,13 +35,17 @@ flat_gather h g (f ∷ fs) = flat_append h (g 0 f) (gather (λ i. g (suc i)) fs)
 
 module _ {A : Type 0} where
   -- one more field
-  pub gather_next : (g : ℕ → LuminaireField → List A) (fs : List LuminaireField) (i : ℕ) (d : LuminaireField) → i < length fs
+  gather_suc : (g : ℕ → LuminaireField → List A) (fs : List LuminaireField) (i : ℕ) (d : LuminaireField) → i < length fs
       → gather g (take (suc i) fs) ≡ gather g (take i fs) ++ g i (get_or fs i d)
-  gather_next g [] i d h = absurd (not-suc-le-zero h)
-  gather_next g (f ∷ fs) zero d h = append-nil (g 0 f)
-  gather_next g (f ∷ fs) (suc i) d h =
-      ap (λ (r : List A). g 0 f ++ r) (gather_next (λ i. g (suc i)) fs i d (le_of_suc-le-suc h))
+  gather_suc g [] i d h = absurd (not-suc-le-zero h)
+  gather_suc g (f ∷ fs) zero d h = append-nil (g 0 f)
+  gather_suc g (f ∷ fs) (suc i) d h =
+      ap (λ (r : List A). g 0 f ++ r) (gather_suc (λ i. g (suc i)) fs i d (le_of_suc-le-suc h))
       ∙ sym (append_assoc (g 0 f) (gather (λ i. g (suc i)) (take i fs)) (g (suc i) (get_or fs i d)))
+
+  pub gather_next : (g : ℕ → LuminaireField → List A) (fs : List LuminaireField) (i : ℕ) (d : LuminaireField) → i < length fs
+      → gather g (take (i + 1) fs) ≡ gather g (take i fs) ++ g i (get_or fs i d)
+  gather_next g fs i d h = ap (λ (n : ℕ). gather g (take n fs)) (add-one i) ∙ gather_suc g fs i d h
 
   -- the first fields come first
   pub gather_front : (g : ℕ → LuminaireField → List A) (fs : List LuminaireField) (i : ℕ) → (rest : List A) × (gather g fs ≡ gather g (take i fs) ++ rest)
@@ -51,19 +57,26 @@ module _ {A : Type 0} where
         ap (λ (l : List A). g 0 f ++ l) r.1 ∙ sym (append_assoc (g 0 f) (gather (λ i. g (suc i)) (take i fs)) r.0),
       )
 
+  -- and give no more than all
+  pub gather_room : (g : ℕ → LuminaireField → List A) (fs : List LuminaireField) (i : ℕ) (d : LuminaireField) → i < length fs
+      → length (gather g (take i fs)) + length (g i (get_or fs i d)) ≤ length (gather g fs)
+  gather_room g fs i d h =
+      let front = gather_front g fs (i + 1) in
+      rw (front.1, gather_next g fs i d h) (simp length-append (omega arith))
+
   -- where no field gives anything
-  pub gather_nothing : (g : ℕ → LuminaireField → List A) (fs : List LuminaireField) → ((i : ℕ) (h : LuminaireField) → get_elem? fs i ≡ some h → g i h ≡ []) → gather g fs ≡ []
+  pub gather_nothing : (g : ℕ → LuminaireField → List A) (fs : List LuminaireField) → ((i : ℕ) (h : LuminaireField) → slice_get fs i ≡ Some h → g i h ≡ []) → gather g fs ≡ []
   gather_nothing g [] e = refl
   gather_nothing g (f ∷ fs) e = rw (e 0 f refl) (gather_nothing (λ i. g (suc i)) fs (λ i. e (suc i)))
 
   -- where one field alone gives something
-  pub gather_only : (g : ℕ → LuminaireField → List A) (fs : List LuminaireField) (p : ℕ) {f : LuminaireField} → get_elem? fs p ≡ some f
-      → ((i : ℕ) (h : LuminaireField) → (i ≡ p → ⊥) → get_elem? fs i ≡ some h → g i h ≡ []) → gather g fs ≡ g p f
+  pub gather_only : (g : ℕ → LuminaireField → List A) (fs : List LuminaireField) (p : ℕ) {f : LuminaireField} → slice_get fs p ≡ Some f
+      → ((i : ℕ) (h : LuminaireField) → (i ≡ p → ⊥) → slice_get fs i ≡ Some h → g i h ≡ []) → gather g fs ≡ g p f
   gather_only g [] p m e = no_element m
   gather_only g (h ∷ fs) zero m e =
       ap (λ (r : List A). g 0 h ++ r) (gather_nothing (λ i. g (suc i)) fs (λ i f. e (suc i) f (λ z. suc-ne-zero _ z)))
       ∙ append-nil (g 0 h)
-      ∙ ap (g 0) (some-injective _ _ m)
+      ∙ ap (g 0) (same_Some _ _ m)
   gather_only g (h ∷ fs) (suc p) m e = rw (e 0 h (λ z. suc-ne-zero _ (sym z)) refl) (gather_only (λ i. g (suc i)) fs p m (λ i f d. e (suc i) f (λ z. d (suc_inj z))))
 
 -- ---- each element of lists in two parts, of what elements give, and of what fields give
@@ -73,12 +86,12 @@ module _ {A : Type 0} (P : A → Type 0) where
   each_append [] ys a b = b
   each_append (x ∷ xs) ys a b = (a.0, each_append xs ys a.1 b)
 
-  pub each_at : (xs : List A) (i : ℕ) {x : A} → Each P xs → get_elem? xs i ≡ some x → P x
+  pub each_at : (xs : List A) (i : ℕ) {x : A} → Each P xs → slice_get xs i ≡ Some x → P x
   each_at [] i a e = no_element e
-  each_at (y ∷ xs) zero a e = subst P (some-injective _ _ e) a.0
+  each_at (y ∷ xs) zero a e = subst P (same_Some _ _ e) a.0
   each_at (y ∷ xs) (suc i) a e = each_at xs i a.1 e
 
-  pub each_gather : (g : ℕ → LuminaireField → List A) (fs : List LuminaireField) → ((i : ℕ) (f : LuminaireField) → get_elem? fs i ≡ some f → Each P (g i f)) → Each P (gather g fs)
+  pub each_gather : (g : ℕ → LuminaireField → List A) (fs : List LuminaireField) → ((i : ℕ) (f : LuminaireField) → slice_get fs i ≡ Some f → Each P (g i f)) → Each P (gather g fs)
   each_gather g [] h = tt
   each_gather g (f ∷ fs) h = each_append (g 0 f) (gather (λ i. g (suc i)) fs) (h 0 f refl) (each_gather (λ i. g (suc i)) fs (λ i. h (suc i)))
 

@@ -1,5 +1,5 @@
-pub mod Options
 pub mod Laying
+pub mod Copies
 pub mod Gathering
 pub mod Refusals
 pub mod Table

@@ -1,9 +1,10 @@
 -- Laws of the wanted numbers.
 -- Assumes nothing.
+use Rattle.std.proofs.lemmas.Option.{same_Some}
+use Rattle.std.specs.Prelude.{None, Option, Some}
 use mathlib.Core.Path.{◌≡◌, refl, sym, ap, ◌∙◌}
 use mathlib.Core.Bool.{true, false, cond}
 use mathlib.Core.List.{List, [], ◌∷◌}
-use mathlib.Core.Option.{none, some, some-injective}
 use Prim.Native.Nat.{ℕ, zero, suc, ◌+◌, ◌/◌, ◌%◌, ◌^◌, ◌≤◌, ◌<◌}
 use native.Mathlib.Nat.{zero-add, pow-suc, div-one, div-div-eq-div-mul}
 use native.Mathlib.Numerals.{add-one}
@@ -17,7 +18,6 @@ use Rattle.bus.specs.Number.{number, low_bytes}
 use Rattle.bus.proofs.Number.{length_low_bytes, number_low_bytes}
 use Rattle.bus.proofs.Lists.{entry_in, entry_out}
 use Rattle.bus.proofs.Tests.{by_test}
-use Rattle.bank.specs.declared.OptionUsize.{OptionUsize}
 use Rattle.bank.specs.declared.luminaire_write.FieldKind.{FieldKind}
 use Rattle.bank.specs.declared.luminaire_write.FieldKind.TheVariants.{LayoutId, Number, Text}
 use Rattle.bank.specs.declared.luminaire_write.LuminaireField.{LuminaireField}
@@ -27,25 +27,25 @@ use Rattle.records.specs.Writes.{Write, number_values, bit_place, is_set, number
 use Rattle.records.proofs.Gathering.{flat_gather}
 
 module _ (n : LuminaireNumbers) (patch : ℕ) where
-  pub number_over : 11 ≤ bit_place patch → none ≡ number_for n patch
+  pub number_over : 11 ≤ bit_place patch → None ≡ number_for n patch
   unfolding number_for
   number_over h =
       by_test (is_set n.patch_mask (bit_place patch))
       (λ t. rw t (entry_out (number_values n) 11 (bit_place patch) h))
       (λ t. rw t)
 
-  pub number_unset : is_set n.patch_mask (bit_place patch) ≡ false → none ≡ number_for n patch
+  pub number_unset : is_set n.patch_mask (bit_place patch) ≡ false → None ≡ number_for n patch
   unfolding number_for
   number_unset t = rw t
 
-  pub number_set : is_set n.patch_mask (bit_place patch) ≡ true → bit_place patch < 11 → some (get_or (number_values n) (bit_place patch) 0) ≡ number_for n patch
+  pub number_set : is_set n.patch_mask (bit_place patch) ≡ true → bit_place patch < 11 → Some (get_or (number_values n) (bit_place patch) 0) ≡ number_for n patch
   unfolding number_for
   number_set t h = rw t (entry_in (number_values n) 11 (bit_place patch) 0 h (lit≤ tt))
 
 pub every_number_kept : EveryNumberKept
 every_number_kept n f value bytes w e =
-    let same : some (low_bytes f.len value) ≡ some bytes = rw w at e in
-    let low : bytes ≡ low_bytes f.len value = sym (some-injective _ _ same) in
+    let same : Some (low_bytes f.len value) ≡ Some bytes = rw w at e in
+    let low : bytes ≡ low_bytes f.len value = sym (same_Some _ _ same) in
     (ap length low ∙ length_low_bytes f.len value, ap number low ∙ number_low_bytes f.len value)
 
 -- ---- how many numbers are planned
@@ -87,7 +87,7 @@ counts n LayoutId = 0
 counts n (Number patch r) = cond (ltb (bit_place patch) 11) (n.patch_mask / 2 ^ bit_place patch % 2) 0
 counts n (Text t) = 0
 
-module _ (n : LuminaireNumbers) (which : OptionUsize) (text : List ℕ) where
+module _ (n : LuminaireNumbers) (which : Option ℕ) (text : List ℕ) where
   number_count : (i : ℕ) (f : LuminaireField) (kind : FieldKind) → f.kind ≡ kind → length (number_writes (writes_at n which text i f)) ≡ counts n kind
   number_count i f LayoutId e = rw e
   number_count i f (Number patch r) e =

@@ -1,15 +1,13 @@
 -- The theorems on planned writes: their order, their places, and that no store of an accepted plan is past the bank's end.
 -- Assumes nothing.
+use Rattle.std.specs.Prelude.{None, Option, Some, slice_get}
 use mathlib.Core.Path.{◌≡◌, refl, sym, subst}
 use mathlib.Core.Bool.{true}
 use mathlib.Core.List.{List, [], ◌∷◌, ◌++◌, append-nil}
-use mathlib.Core.Option.{Option, none, some}
 use Prim.Native.Nat.{ℕ, suc, ◌+◌, ◌≤◌}
 use native.Mathlib.Omega.{arith}
 use borrow.Author.Tests.{le-leb}
-use lib.ListN.{length, get_elem?}
-use Rattle.bus.specs.declared.OptionU8.{OptionU8}
-use Rattle.bank.specs.declared.OptionUsize.{OptionUsize}
+use lib.ListN.{length}
 use Rattle.bank.specs.declared.luminaire_write.LuminaireField.{LuminaireField}
 use Rattle.bank.specs.Refusal.{first_of}
 use Rattle.bank.specs.Fields.{luminaire_fields, field_end, is_text_kind}
@@ -70,22 +68,22 @@ rising_gather : (g : ℕ → LuminaireField → List Write) (z : ℕ) (fs : List
 rising_gather g z [] s o = tt
 rising_gather g z (f ∷ fs) s o = rising_own z f (g 0 f) (gather (λ i. g (suc i)) fs) s.0 (o 0 f) (rising_gather (λ i. g (suc i)) (field_end f) fs s.1 (λ i. o (suc i)))
 
-module _ (n : LuminaireNumbers) (which : OptionUsize) (text : List ℕ) where
+module _ (n : LuminaireNumbers) (which : Option ℕ) (text : List ℕ) where
   own : (i : ℕ) (f : LuminaireField) (o : Option (List ℕ)) → bytes_for f.kind n which text i f ≡ o → Own f (writes_at n which text i f)
-  own i f none e = rw e tt
-  own i f (some bytes) e = rw e refl
+  own i f None e = rw e tt
+  own i f (Some bytes) e = rw e refl
 
   -- the stores of a field stand in it
   pub in_field : (i : ℕ) (f : LuminaireField) → Each (InField f) (stores_at n which text i f)
   in_field i f = go (bytes_for f.kind n which text i f) refl
     where
       go : (o : Option (List ℕ)) → bytes_for f.kind n which text i f ≡ o → Each (InField f) (stores_at n which text i f)
-      go none e = rw e tt
-      go (some bytes) e = subst (Each (InField f)) (sym (stores_of_write n which text i f e)) (inside i f bytes (bytes_fit f.kind n which text i f e))
+      go None e = rw e tt
+      go (Some bytes) e = subst (Each (InField f)) (sym (stores_of_write n which text i f e)) (inside i f bytes (bytes_fit f.kind n which text i f e))
 
-  placed : (i : ℕ) (f : LuminaireField) → get_elem? luminaire_fields i ≡ some f → (o : Option (List ℕ)) → bytes_for f.kind n which text i f ≡ o → Each InPlace (writes_at n which text i f)
-  placed i f t none e = rw e tt
-  placed i f t (some bytes) e =
+  placed : (i : ℕ) (f : LuminaireField) → slice_get luminaire_fields i ≡ Some f → (o : Option (List ℕ)) → bytes_for f.kind n which text i f ≡ o → Each InPlace (writes_at n which text i f)
+  placed i f t None e = rw e tt
+  placed i f t (Some bytes) e =
       let fits = bytes_fit f.kind n which text i f e in
       rw e (record { of_table = t; fits = fits; inside = inside i f bytes fits }, tt)
 
@@ -102,14 +100,14 @@ every_plan_in_order n which text = plan_in_order n which text
 
 -- ---- an accepted plan
 
-module _ (p : Plan) (text : List ℕ) (last : ℕ) (known : p.layout.last_offset ≡ OptionU8.Some last) where
-  field_in_bank : first_of (plan_checks p text) ≡ none → (i : ℕ) (f : LuminaireField) → get_elem? luminaire_fields i ≡ some f → (o : Option (List ℕ)) → bytes_for f.kind p.numbers p.text_field text i f ≡ o → Each (λ (s : Store). s.offset ≤ last) (stores_at p.numbers p.text_field text i f)
-  field_in_bank sound i f e none b = rw b tt
-  field_in_bank sound i f e (some bytes) b =
+module _ (p : Plan) (text : List ℕ) (last : ℕ) (known : p.layout.last_offset ≡ Some last) where
+  field_in_bank : first_of (plan_checks p text) ≡ None → (i : ℕ) (f : LuminaireField) → slice_get luminaire_fields i ≡ Some f → (o : Option (List ℕ)) → bytes_for f.kind p.numbers p.text_field text i f ≡ o → Each (λ (s : Store). s.offset ≤ last) (stores_at p.numbers p.text_field text i f)
+  field_in_bank sound i f e None b = rw b tt
+  field_in_bank sound i f e (Some bytes) b =
       let end = ends_by_lem p text sound i e b known in
       each_map (InField f) (λ (s : Store). s.offset ≤ last) (λ s h. omega (arith, h.0, h.1, end)) (stores_at p.numbers p.text_field text i f) (in_field p.numbers p.text_field text i f)
 
-  stores_in_bank : first_of (plan_checks p text) ≡ none → Each (λ (s : Store). s.offset ≤ last) (stores_of p text)
+  stores_in_bank : first_of (plan_checks p text) ≡ None → Each (λ (s : Store). s.offset ≤ last) (stores_of p text)
   stores_in_bank s =
       subst (Each (λ (s : Store). s.offset ≤ last)) (sym (by_field p.numbers p.text_field text))
       (each_gather (λ (s : Store). s.offset ≤ last) (stores_at p.numbers p.text_field text) luminaire_fields

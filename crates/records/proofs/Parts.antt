@@ -1,17 +1,15 @@
 -- Laws of the implemented parts: bit by bit they come one behind the other.
 -- Assumes nothing.
-use mathlib.Core.Path.{◌≡◌, refl, sym, ap, ◌∙◌}
-use mathlib.Core.Bool.{true, false}
+use mathlib.Core.Path.{◌≡◌, sym, ap, ◌∙◌}
 use mathlib.Core.List.{List, [], ◌∷◌, ◌++◌, append-nil}
-use Prim.Native.Nat.{ℕ, zero, suc, ◌+◌, ◌/◌, ◌%◌, ◌^◌, ◌≤◌, zero-le}
+use Prim.Native.Nat.{ℕ, zero, suc, ◌+◌, ◌/◌, ◌%◌, ◌^◌, ◌≤◌}
 use native.Mathlib.Numerals.{add-one}
 use native.Mathlib.Omega.{arith}
 use borrow.Author.Tests.{eq-eqb, ne_eqb}
 use lib.ListN.{length, set, length-append}
-use lib.Seq.{take-nil}
 use Rattle.bus.specs.Value.{laid_into}
 use Rattle.bus.proofs.Lists.{laid_more}
-use Rattle.records.specs.BusUnit.{in_range, part_of, parts_of}
+use Rattle.records.specs.BusUnit.{part_of}
 
 -- the parts of the bits below one
 abbrev pub below : ℕ → ℕ → List ℕ
@@ -48,12 +46,3 @@ module _ {raw : ℕ} {out₀ out : List ℕ} {count bit : ℕ} (s : Stored raw o
         laid = o ∙ s.laid ∙ ap (λ (ps : List ℕ). laid_into ps out₀) (sym same);
         few = omega (arith, n, s.few);
       }
-
-pub no_part : (raw : ℕ) → in_range raw ≡ false → parts_of raw ≡ []
-no_part raw e = rw e
-
-pub nothing_stored : (raw : ℕ) (out : List ℕ) → Stored raw out out 0 0
-nothing_stored raw out = record { counted = refl; laid = rw take-nil; few = zero-le }
-
-pub all_bits : (raw : ℕ) → in_range raw ≡ true → below raw 5 ≡ parts_of raw
-all_bits raw e = rw e

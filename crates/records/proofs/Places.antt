@@ -1,10 +1,12 @@
 -- Laws of a place: whether its bytes are all present, and what they are; and its theorems.
 -- Assumes nothing.
-use mathlib.Core.Path.{◌≡◌, refl, sym, ap, ◌∙◌}
-use mathlib.Core.Bool.{Bool, true, false, cond}
-use mathlib.Core.List.{List, [], ◌∷◌}
-use mathlib.Core.Option.{none, some, map, some-injective}
-use Prim.Native.Nat.{ℕ, ◌+◌, ◌-◌, ◌≤◌, ◌<◌, zero, suc, min, zero-le}
+use Rattle.std.proofs.lemmas.List.{drop-take}
+use Rattle.std.proofs.lemmas.Option.{same_Some}
+use Rattle.std.specs.Prelude.{None, Some}
+use mathlib.Core.Path.{◌≡◌, sym, ap, ◌∙◌}
+use mathlib.Core.Bool.{true, false}
+use mathlib.Core.List.{List}
+use Prim.Native.Nat.{ℕ, ◌+◌, ◌-◌, ◌≤◌, ◌<◌, min, zero-le}
 use native.Mathlib.Nat.{sub-zero}
 use native.Mathlib.Numerals.{add-one}
 use native.Mathlib.Omega.{arith}
@@ -12,38 +14,20 @@ use borrow.Author.Tests.{le-leb, lt-leb, leb-true}
 use lib.Dec.{eqb, leb}
 use lib.ListN.{length, get_or, take, drop, drop_of_length-le, length-take, length-drop}
 use lib.Seq.{drop-cons, take-take, drop-drop}
-use Rattle.bus.specs.declared.ValueWidth.{ValueWidth}
 use Rattle.bus.specs.Number.{number}
-use Rattle.bus.specs.Width.{bytes_of}
-use Rattle.bus.specs.Value.{classified, read_at, value_of}
-use Rattle.bus.proofs.Number.{number_part}
-use Rattle.bus.proofs.Options.{told_number}
+use Rattle.bus.specs.Value.{classified}
 use Rattle.bus.proofs.Tests.{by_test, no_yes}
 use Rattle.bus.proofs.Value.{no_mask_shown}
 use Rattle.bus.proofs.Lists.{no_element}
 use Rattle.records.specs.declared.attributes.BankReading.{BankReading}
-use Rattle.records.specs.Places.{field_at, is_there, all_ff, reading_of, reading_at, PartReadsAsBank, NoReadingShowsMask}
+use Rattle.records.specs.Places.{field_at, is_there, all_ff, reading_of, PartReadsAsBank, NoReadingShowsMask}
 
 module _ (start : ℕ) (bytes : List ℕ) (o n : ℕ) where
-  pub before : o < start → field_at start bytes o n ≡ none
-  before h = rw (lt-leb start o h)
-
-  pub behind : start ≤ o → length bytes < o - start + n → field_at start bytes o n ≡ none
+  pub behind : start ≤ o → length bytes < o - start + n → field_at start bytes o n ≡ None
   behind h k = rw (le-leb start o h, lt-leb (o - start + n) (length bytes) k)
 
-  pub whole : start ≤ o → o - start + n ≤ length bytes → field_at start bytes o n ≡ some (take n (drop (o - start) bytes))
+  pub whole : start ≤ o → o - start + n ≤ length bytes → field_at start bytes o n ≡ Some (take n (drop (o - start) bytes))
   whole h k = rw (le-leb start o h, le-leb (o - start + n) (length bytes) k)
-
--- from the start offset on, a reading is what is read at the place itself
-pub read_behind : (start : ℕ) (bytes : List ℕ) (o : ℕ) (w : ValueWidth) → start ≤ o → reading_at start bytes o w ≡ map (reading_of w) (read_at w (o - start) bytes)
-read_behind start bytes o w h = rw (le-leb start o h) (by (leb (o - start + bytes_of w) (length bytes)))
-  where
-    by :
-        (b : Bool) →
-        map (λ bs. reading_of w (classified w (number bs))) (cond b (some (take (bytes_of w) (drop (o - start) bytes))) none)
-        ≡ map (reading_of w) (map (λ bs. classified w (number bs)) (cond b (some (take (bytes_of w) (drop (o - start) bytes))) none))
-    by true = refl
-    by false = refl
 
 -- bytes that are all FF, from byte i on
 module _ (bytes : List ℕ) (i : ℕ) where
@@ -63,7 +47,7 @@ module _ (bytes : List ℕ) (i : ℕ) where
 pub record There (start : ℕ) (bytes : List ℕ) (o n : ℕ) : Type 0 where
   pub from : start ≤ o
   pub within : o - start + n ≤ length bytes
-  pub is : field_at start bytes o n ≡ some (take n (drop (o - start) bytes))
+  pub is : field_at start bytes o n ≡ Some (take n (drop (o - start) bytes))
 
 module _ (start : ℕ) (bytes : List ℕ) (o n : ℕ) where
   pub is_there_lem : is_there (field_at start bytes o n) ≡ true → There start bytes o n
@@ -78,7 +62,7 @@ module _ (start : ℕ) (bytes : List ℕ) (o n : ℕ) where
       (λ t. absurd (no_yes (rw (s, t) at e))))
       (λ s. absurd (no_yes (rw s at e)))
 
-  pub not_there : is_there (field_at start bytes o n) ≡ false → field_at start bytes o n ≡ none
+  pub not_there : is_there (field_at start bytes o n) ≡ false → field_at start bytes o n ≡ None
   not_there e =
       by_test (leb start o)
       (λ s.
@@ -87,21 +71,12 @@ module _ (start : ℕ) (bytes : List ℕ) (o n : ℕ) where
       (λ t. rw (s, t)))
       (λ s. rw s)
 
--- the number of a field that is there, from its bytes as they are lent
-pub number_there :
-    {start : ℕ} {bytes : List ℕ} {o n r : ℕ} →
-    There start bytes o n → n ≤ 8 → r ≡ number (take 8 (take (o - start + n - (o - start)) (drop (o - start) bytes))) →
-    map number (field_at start bytes o n) ≡ some r
-number_there {start} {bytes} {o} {n} t h e = ap (map number) t.is ∙ ap some (sym (e ∙ number_part bytes (o - start) n h))
-
 -- a part of a part
 part_of_part : (m k n : ℕ) (xs : List ℕ) → k + n ≤ m → take n (drop k (take m xs)) ≡ take n (drop k xs)
-part_of_part zero k n xs h =
-    let none_taken : n ≡ 0 = omega arith in
-    rw none_taken
-part_of_part (suc m) k n [] h = refl
-part_of_part (suc m) zero n (x ∷ xs) h = take-take n (suc m) (x ∷ xs) (omega arith)
-part_of_part (suc m) (suc k) n (x ∷ xs) h = part_of_part m k n xs (omega arith)
+part_of_part m k n xs h =
+    let longer : k + (m - k) ≡ m = omega arith in
+    ap (take n) (ap (λ (j : ℕ). drop k (take j xs)) (sym longer) ∙ drop-take k (m - k) xs)
+    ∙ take-take n (m - k) (drop k xs) (omega arith)
 
 -- the bytes of a field that lies in a part of a bank
 module _ (bank : List ℕ) (start m o n : ℕ) where
@@ -116,26 +91,26 @@ module _ (bank : List ℕ) (start m o n : ℕ) where
       let back : start + (o - start) ≡ o = omega (arith, h) in
       part_of_part m (o - start) n (drop start bank) k ∙ rw (drop-drop (o - start) start bank, back, sub-zero)
 
-  of_bank : 1 ≤ n → {bs : List ℕ} → field_at start part o n ≡ some bs → field_at 0 bank o n ≡ some bs
+  of_bank : 1 ≤ n → {bs : List ℕ} → field_at start part o n ≡ Some bs → field_at 0 bank o n ≡ Some bs
   of_bank some_bytes e =
       by_test (is_there (field_at start part o n))
       (λ t.
       let p = is_there_lem start part o n t in
       let bound = long in
       whole 0 bank o n zero-le (omega (arith, p.within, p.from, some_bytes))
-      ∙ ap some (sym (same_bytes p.from (omega (arith, p.within))))
+      ∙ ap Some (sym (same_bytes p.from (omega (arith, p.within))))
       ∙ sym p.is
       ∙ e)
       (λ t. no_element (sym (not_there start part o n t) ∙ e))
 
-  present : 1 ≤ n → {bs : List ℕ} → start ≤ o → o + n ≤ start + m → field_at 0 bank o n ≡ some bs → field_at start part o n ≡ some bs
+  present : 1 ≤ n → {bs : List ℕ} → start ≤ o → o + n ≤ start + m → field_at 0 bank o n ≡ Some bs → field_at start part o n ≡ Some bs
   present some_bytes h k e =
       by_test (is_there (field_at 0 bank o n))
       (λ t.
       let p = is_there_lem 0 bank o n t in
       let bound = long in
       whole start part o n h (omega (arith, p.within, some_bytes))
-      ∙ ap some (same_bytes h (omega arith))
+      ∙ ap Some (same_bytes h (omega arith))
       ∙ sym p.is
       ∙ e)
       (λ t. no_element (sym (not_there 0 bank o n t) ∙ e))
@@ -144,13 +119,8 @@ pub part_reads_as_bank : PartReadsAsBank
 part_reads_as_bank bank start m o n some_bytes =
     record { of_bank = of_bank bank start m o n some_bytes; present = present bank start m o n some_bytes }
 
--- what is there under a test is there where the test holds
-pub there_if : (b : Bool) (bs : List ℕ) → b ≡ is_there (cond b (some bs) none)
-there_if true bs = refl
-there_if false bs = refl
-
 pub no_reading_shows_mask : NoReadingShowsMask
 no_reading_shows_mask start bytes o w bs r v f e s =
-    let read : some (reading_of w (classified w (number bs))) ≡ some r = rw f at e in
-    let same : reading_of w (classified w (number bs)) ≡ r = some-injective _ _ read in
-    no_mask_shown w (number bs) v (told_number (value_of (classified w (number bs))) (sym (ap (λ (q : BankReading). q.value) same)) s)
+    let read : Some (reading_of w (classified w (number bs))) ≡ Some r = rw f at e in
+    let same : reading_of w (classified w (number bs)) ≡ r = same_Some _ _ read in
+    no_mask_shown w (number bs) v (sym (sym (ap (λ (q : BankReading). q.value) same)) ∙ s)

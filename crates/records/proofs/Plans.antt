@@ -1,9 +1,9 @@
 -- Laws of what a plan answers, and of what it leaves in the slices that it is lent; the theorem on where it is accepted.
 -- Assumes nothing.
+use Rattle.std.specs.Prelude.{Err, None, Ok, Option, Result, Some}
 use mathlib.Core.Path.{◌≡◌, refl, sym, ap, ◌∙◌}
 use mathlib.Core.Bool.{true, ◌||◌}
 use mathlib.Core.List.{List, [], ◌∷◌, ◌++◌}
-use mathlib.Core.Option.{Option, none, some}
 use Prim.Native.Nat.{ℕ, ◌≤◌, ◌<◌}
 use native.Mathlib.Nat.{zero-div}
 use native.Mathlib.Omega.{arith}
@@ -12,7 +12,6 @@ use lib.Dec.{ltb}
 use lib.ListN.{length, drop}
 use Rattle.bus.specs.Value.{laid_into}
 use Rattle.bus.proofs.Lists.{laid_whole}
-use Rattle.bank.specs.declared.OptionUsize.{OptionUsize}
 use Rattle.bank.specs.declared.luminaire_write.FieldKind.{FieldKind}
 use Rattle.bank.specs.declared.luminaire_write.FieldKind.TheVariants.{LayoutId, Number, Text}
 use Rattle.bank.specs.declared.luminaire_write.LuminaireField.{LuminaireField}
@@ -21,8 +20,6 @@ use Rattle.bank.specs.declared.refusal.Refusal.TheVariants.{SliceTooShort}
 use Rattle.bank.specs.Refusal.{Check, first_of}
 use Rattle.bank.specs.Fields.{luminaire_fields}
 use Rattle.bank.proofs.Checks.{refused_first, passed_first, none_first, none_second, passed, or_left, or_right}
-use Rattle.records.specs.declared.ResultUsize.{ResultUsize}
-use Rattle.records.specs.declared.ResultUsize.TheVariants.{Ok, Err}
 use Rattle.records.specs.declared.luminaire_write.Plan.{Plan}
 use Rattle.records.specs.Writes.{Store, number_for, wanted_number, bytes_for, stores_at, offsets_of, values_of}
 use Rattle.records.specs.Plan.{unknown_bits, unknown_field, field_checks, plan_checks, stores_of, short_slices, lay_checks, planned, offsets_after, values_after, Acceptable, PlanTakenExactly}
@@ -34,18 +31,18 @@ use Rattle.records.proofs.Table.{by_field}
 
 module _ (p : Plan) (text os vs : List ℕ) where
   -- an answer, and the slices behind the call
-  abbrev Answered : ResultUsize → List ℕ → List ℕ → Type 0
+  abbrev Answered : Result ℕ Refusal → List ℕ → List ℕ → Type 0
   Answered r os' vs' = (r ≡ planned p text os vs) × ((os' ≡ offsets_after p text os vs) × (vs' ≡ values_after p text os vs))
 
-  refused : {r : Refusal} → first_of (lay_checks p text os vs) ≡ some r → Answered (Err r) os vs
+  refused : {r : Refusal} → first_of (lay_checks p text os vs) ≡ Some r → Answered (Err r) os vs
   unfolding planned offsets_after values_after
   refused e = (rw e, (rw e, rw e))
 
-  pub plan_refused : {r : Refusal} → first_of (plan_checks p text) ≡ some r → Answered (Err r) os vs
+  pub plan_refused : {r : Refusal} → first_of (plan_checks p text) ≡ Some r → Answered (Err r) os vs
   plan_refused e = refused (refused_first (plan_checks p text) (short_slices (stores_of p text) os vs ∷ []) e)
 
   -- where no other check applies
-  module _ (sound : first_of (plan_checks p text) ≡ none) where
+  module _ (sound : first_of (plan_checks p text) ≡ None) where
     last : first_of (lay_checks p text os vs) ≡ first_of (short_slices (stores_of p text) os vs ∷ [])
     last = passed_first (plan_checks p text) (short_slices (stores_of p text) os vs ∷ []) sound
 
@@ -63,24 +60,21 @@ module _ (p : Plan) (text os vs : List ℕ) where
         → Answered (Ok n) os' vs'
     unfolding planned offsets_after values_after
     plan_accepted k l a b d =
-        let e : first_of (lay_checks p text os vs) ≡ none = last ∙ alone_passed SliceTooShort (rw (le-ltb (length os) (length (stores_of p text)) k) (le-ltb (length vs) (length (stores_of p text)) l)) in
+        let e : first_of (lay_checks p text os vs) ≡ None = last ∙ alone_passed SliceTooShort (rw (le-ltb (length os) (length (stores_of p text)) k) (le-ltb (length vs) (length (stores_of p text)) l)) in
         (rw e (ap Ok a), (rw e b, rw e d))
 
 -- ---- where a plan is accepted
 
 pub no_error : {A : Type 0} {r : Refusal} {n : ℕ} → Err r ≡ Ok n → A
-no_error e =
-    let z : ◌≡◌ {A = ℕ} 0 1 = cc in
-    let y : ⊥ = omega arith in
-    absurd y
+no_error e = absurd cc
 
 acceptable : (p : Plan) (text os vs : List ℕ) {count : ℕ} → planned p text os vs ≡ Ok count → Acceptable p text os vs
 unfolding planned
 acceptable p text os vs e = go (first_of (lay_checks p text os vs)) refl
   where
     go : (o : Option Refusal) → first_of (lay_checks p text os vs) ≡ o → Acceptable p text os vs
-    go (some r) f = no_error (rw f at e)
-    go none f =
+    go (Some r) f = no_error (rw f at e)
+    go None f =
         let ss = stores_of p text in
         let slices = (passed (short_slices ss os vs ∷ []) (none_second (plan_checks p text) (short_slices ss os vs ∷ []) f)).0 in
         record {
@@ -89,7 +83,7 @@ acceptable p text os vs e = go (first_of (lay_checks p text os vs)) refl
           values_room = ltb-false (length vs) (length ss) (or_right (ltb (length os) (length ss)) (ltb (length vs) (length ss)) slices);
         }
 
-pub passed_plan : (p : Plan) (text os vs : List ℕ) {count : ℕ} → planned p text os vs ≡ Ok count → first_of (plan_checks p text) ≡ none
+pub passed_plan : (p : Plan) (text os vs : List ℕ) {count : ℕ} → planned p text os vs ≡ Ok count → first_of (plan_checks p text) ≡ None
 passed_plan p text os vs e = (acceptable p text os vs e).allowed
 
 -- a plan that is refused leaves the slices as before
@@ -98,24 +92,24 @@ unfolding planned
 left p text os vs {r} e = go (first_of (lay_checks p text os vs)) refl
   where
     go : (o : Option Refusal) → first_of (lay_checks p text os vs) ≡ o → (offsets_after p text os vs ≡ os) × (values_after p text os vs ≡ vs)
-    go none f = no_error (sym (rw f at e))
-    go (some x) f = (sym (refused p text os vs f).1.0, sym (refused p text os vs f).1.1)
+    go None f = no_error (sym (rw f at e))
+    go (Some x) f = (sym (refused p text os vs f).1.0, sym (refused p text os vs f).1.1)
 
 -- a plan for no field
-module _ (p : Plan) (text : List ℕ) (no_number : p.numbers.patch_mask ≡ 0) (no_text : p.text_field ≡ OptionUsize.None) where
-  none_wanted : (kind : FieldKind) → wanted_number p.numbers kind ≡ none
+module _ (p : Plan) (text : List ℕ) (no_number : p.numbers.patch_mask ≡ 0) (no_text : p.text_field ≡ None) where
+  none_wanted : (kind : FieldKind) → wanted_number p.numbers kind ≡ None
   unfolding number_for
   none_wanted LayoutId = refl
   none_wanted (Number patch r) = rw (no_number, zero-div)
   none_wanted (Text t) = refl
 
-  no_checks : first_of (plan_checks p text) ≡ none
+  no_checks : first_of (plan_checks p text) ≡ None
   unfolding plan_checks first_of
   no_checks =
       ap (λ (cs : List Check). first_of (unknown_bits p ∷ unknown_field p ∷ cs)) (gather_nothing (field_checks p text) luminaire_fields (λ i f _. rw (none_wanted f.kind, no_text)))
       ∙ rw (no_number, no_text)
 
-  no_bytes : (kind : FieldKind) (i : ℕ) (f : LuminaireField) → f.kind ≡ kind → bytes_for kind p.numbers p.text_field text i f ≡ none
+  no_bytes : (kind : FieldKind) (i : ℕ) (f : LuminaireField) → f.kind ≡ kind → bytes_for kind p.numbers p.text_field text i f ≡ None
   no_bytes LayoutId i f k = refl
   no_bytes (Number patch r) i f k = rw (none_wanted f.kind)
   no_bytes (Text t) i f k = rw no_text

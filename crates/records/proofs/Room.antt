@@ -1,31 +1,28 @@
 -- What a plan answers to slices that are long enough for the stores of any.
 -- Assumes nothing.
+use Rattle.std.specs.Prelude.{Err, None, Ok, Option, Result, Some}
 use mathlib.Core.Path.{◌≡◌, refl, sym, ap, ◌∙◌, subst}
-use mathlib.Core.List.{List, [], ◌∷◌, map}
-use mathlib.Core.Option.{Option, none, some}
-use Prim.Native.Nat.{ℕ, zero, suc, ◌+◌, ◌≤◌, min}
+use mathlib.Core.List.{List, [], ◌∷◌, ◌++◌, append-nil, map}
+use Prim.Native.Nat.{ℕ, zero, suc, ◌+◌, ◌≤◌, ◌<◌, min}
 use native.Mathlib.Omega.{arith}
-use lib.ListN.{length, take, length-append, length-take}
+use lib.ListN.{get_or, length, take, length-append, length-take}
 use lib.Seq.{take-take}
 use Rattle.bus.specs.Value.{laid_into}
 use Rattle.bus.proofs.Lists.{no_element, sets_laid}
-use Rattle.bank.specs.declared.OptionUsize.{OptionUsize}
 use Rattle.bank.specs.declared.refusal.Refusal.{Refusal}
 use Rattle.bank.specs.declared.luminaire_write.LuminaireField.{LuminaireField}
 use Rattle.bank.specs.Refusal.{first_of}
 use Rattle.bank.specs.Fields.{luminaire_fields}
 use Rattle.bank.specs.Calls.{sum}
-use Rattle.bank.proofs.Running.{take_there}
-use Rattle.records.specs.declared.ResultUsize.{ResultUsize}
-use Rattle.records.specs.declared.ResultUsize.TheVariants.{Ok, Err}
+use Rattle.std.proofs.lemmas.List.{take_min}
 use Rattle.records.specs.declared.luminaire_write.LuminaireNumbers.{LuminaireNumbers}
 use Rattle.records.specs.declared.luminaire_write.Plan.{Plan}
-use Rattle.records.specs.Writes.{gather, Store, offsets_of, values_of, stores_at, plan_stores}
+use Rattle.records.specs.Writes.{gather, bytes_for, written, write_stores, Store, offsets_of, values_of, stores_at, plan_stores}
 use Rattle.records.specs.Plan.{plan_checks, stores_of, planned, offsets_after, values_after}
 use Rattle.records.specs.Cut.{stored, cut_bank, stored_at}
 use Rattle.records.proofs.Laying.{front_laid}
-use Rattle.records.proofs.Table.{by_field}
-use Rattle.records.proofs.Stages.{some_same, stores_few}
+use Rattle.records.proofs.Table.{by_field, next_field, field_room}
+use Rattle.records.proofs.Stages.{bytes_fit, some_same, stores_few, stores_of_write, stores_of_none}
 use Rattle.records.proofs.Stores.{offsets_count, values_count}
 use Rattle.records.proofs.Plans.{plan_refused, plan_accepted}
 use Rattle.records.proofs.Cutting.{members_stored}
@@ -44,10 +41,31 @@ most_is : most_of luminaire_fields ≡ 203
 unfolding luminaire_fields
 most_is = refl
 
-pub stores_bound : (m : LuminaireNumbers) (which : OptionUsize) (text : List ℕ) → length (plan_stores m which text) ≤ 203
+pub stores_bound : (m : LuminaireNumbers) (which : Option ℕ) (text : List ℕ) → length (plan_stores m which text) ≤ 203
 stores_bound m which text =
     rw (by_field m which text)
     (subst (λ (k : ℕ). length (gather (stores_at m which text) luminaire_fields) ≤ k) most_is (gather_few (stores_at m which text) (stores_few m which text) luminaire_fields))
+
+-- in a loop over the table: the stores of a field behind those of the fields before
+module _ (m : LuminaireNumbers) (which : Option ℕ) (text : List ℕ) {t : List LuminaireField} (is : t ≡ luminaire_fields) (i : ℕ) (d : LuminaireField) (h : i < length t) where
+  abbrev field : LuminaireField
+  field = get_or t i d
+
+  module _ {laid : List Store} (before : laid ≡ gather (stores_at m which text) (take i luminaire_fields)) where
+    pub none_next : bytes_for field.kind m which text i field ≡ None → laid ≡ gather (stores_at m which text) (take (i + 1) luminaire_fields)
+    none_next b = before ∙ sym (next_field is i d h (stores_at m which text) ∙ rw (stores_of_none m which text i field b) (append-nil _))
+
+    module _ {own bytes : List ℕ} (b : bytes_for field.kind m which text i field ≡ Some bytes) (is_own : own ≡ bytes) where
+      pub own_fits : length own ≤ field.len
+      own_fits = rw is_own (bytes_fit field.kind m which text i field b)
+
+      pub own_room : length laid + length (write_stores (written i field own)) ≤ 256
+      own_room =
+          let few = field_room is i d h (stores_at m which text) in
+          rw (before, is_own) (omega (arith, few, ap length (stores_of_write m which text i field b), ap length (by_field m which text), stores_bound m which text))
+
+      pub own_next : {new : List Store} → new ≡ laid ++ write_stores (written i field own) → new ≡ gather (stores_at m which text) (take (i + 1) luminaire_fields)
+      own_next e = e ∙ rw (before, is_own, next_field is i d h (stores_at m which text), stores_of_write m which text i field b)
 
 -- the first so many of a slice that they were laid into
 front_is : (xs out : List ℕ) {n : ℕ} → length xs ≡ n → n ≤ length out → take n (laid_into xs out) ≡ xs
@@ -56,17 +74,17 @@ front_is xs out {n} e h =
     ∙ ap (take (length xs)) (sym (sets_laid xs out))
     ∙ front_laid xs out (omega (arith, e, h))
 
-abbrev count_in : ResultUsize → Option ℕ
-count_in (Ok n) = some n
-count_in (Err r) = none
+abbrev count_in : Result ℕ Refusal → Option ℕ
+count_in (Ok n) = Some n
+count_in (Err r) = None
 
-abbrev refusal_in : ResultUsize → Option Refusal
-refusal_in (Ok n) = none
-refusal_in (Err r) = some r
+abbrev refusal_in : Result ℕ Refusal → Option Refusal
+refusal_in (Ok n) = None
+refusal_in (Err r) = Some r
 
 -- an accepted plan: how many stores there are, and where they stand
 pub record AcceptedPlan (p : Plan) (text : List ℕ) (n : ℕ) (os vs : List ℕ) : Type 0 where
-  pub sound : first_of (plan_checks p text) ≡ none
+  pub sound : first_of (plan_checks p text) ≡ None
   pub count : n ≡ length (stores_of p text)
   pub offsets : take n os ≡ offsets_of (stores_of p text)
   pub values : take n vs ≡ values_of (stores_of p text)
@@ -76,12 +94,12 @@ module _ (p : Plan) (text os vs : List ℕ) (room_os : 203 ≤ length os) (room_
   few = stores_bound p.numbers p.text_field text
 
   -- whatever it answers, 13 aside
-  pub told_accepted : {e : ResultUsize} {n : ℕ} {os' vs' : List ℕ} → e ≡ planned p text os vs → os' ≡ offsets_after p text os vs → vs' ≡ values_after p text os vs → e ≡ Ok n → AcceptedPlan p text n os' vs'
+  pub told_accepted : {e : (Result ℕ Refusal)} {n : ℕ} {os' vs' : List ℕ} → e ≡ planned p text os vs → os' ≡ offsets_after p text os vs → vs' ≡ values_after p text os vs → e ≡ Ok n → AcceptedPlan p text n os' vs'
   told_accepted {e} {n} {os'} {vs'} a b d t = go (first_of (plan_checks p text)) refl
     where
       go : (o : Option Refusal) → first_of (plan_checks p text) ≡ o → AcceptedPlan p text n os' vs'
-      go (some r) s = no_element (ap count_in ((plan_refused p text os vs s).0 ∙ sym a ∙ t))
-      go none s =
+      go (Some r) s = no_element (ap count_in ((plan_refused p text os vs s).0 ∙ sym a ∙ t))
+      go None s =
           let ss = stores_of p text in
           let done = plan_accepted p text os vs s (omega (arith, few, room_os)) (omega (arith, few, room_vs)) refl refl refl in
           let same : n ≡ length ss = some_same (ap count_in (sym t ∙ a ∙ sym done.0)) in
@@ -92,12 +110,12 @@ module _ (p : Plan) (text os vs : List ℕ) (room_os : 203 ≤ length os) (room_
             values = ap (take n) (d ∙ sym done.1.1) ∙ front_is (values_of ss) vs (values_count ss ∙ sym same) (omega (arith, same, few, room_vs));
           }
 
-  pub told_refused : {e : ResultUsize} {r : Refusal} → e ≡ planned p text os vs → e ≡ Err r → first_of (plan_checks p text) ≡ some r
+  pub told_refused : {e : (Result ℕ Refusal)} {r : Refusal} → e ≡ planned p text os vs → e ≡ Err r → first_of (plan_checks p text) ≡ Some r
   told_refused {e} {r} a t = go (first_of (plan_checks p text)) refl
     where
-      go : (o : Option Refusal) → first_of (plan_checks p text) ≡ o → first_of (plan_checks p text) ≡ some r
-      go (some q) s = s ∙ ap refusal_in ((plan_refused p text os vs s).0 ∙ sym a ∙ t)
-      go none s =
+      go : (o : Option Refusal) → first_of (plan_checks p text) ≡ o → first_of (plan_checks p text) ≡ Some r
+      go (Some q) s = s ∙ ap refusal_in ((plan_refused p text os vs s).0 ∙ sym a ∙ t)
+      go None s =
           let done = plan_accepted p text os vs s (omega (arith, few, room_os)) (omega (arith, few, room_vs)) refl refl refl in
           no_element (ap refusal_in (done.0 ∙ sym a ∙ t))
 
@@ -117,7 +135,7 @@ module _ {p : Plan} {text : List ℕ} {n : ℕ} {os vs : List ℕ} (a : Accepted
   cut_made k {made} bank e =
       let ss = stores_of p text in
       let few : made ≤ n = omega arith in
-      let same : take made ss ≡ take k ss = (rw (e, a.count)) ∙ take_there k ss in
+      let same : take made ss ≡ take k ss = (rw (e, a.count)) ∙ take_min k ss in
       ap (λ (l : List ℕ). stored_at l (take made vs) bank) (sym (take-take made n os few) ∙ ap (take made) a.offsets ∙ take_map (λ (s : Store). s.offset) made ss)
       ∙ ap (λ (l : List ℕ). stored_at (offsets_of (take made ss)) l bank) (sym (take-take made n vs few) ∙ ap (take made) a.values ∙ take_map (λ (s : Store). s.value) made ss)
       ∙ members_stored (take made ss) bank

@@ -1,11 +1,10 @@
 -- The theorems on the refusal of a text: plans are accepted as before, and 16 tells the first byte outside.
 -- Assumes nothing.
+use Rattle.std.specs.Prelude.{Err, None, Option, Some, slice_get}
 use mathlib.Core.Path.{◌≡◌, refl, sym, ap, ◌∙◌}
 use mathlib.Core.Bool.{Bool, true, false, cond}
 use mathlib.Core.List.{List, [], ◌∷◌, ◌++◌}
-use mathlib.Core.Option.{Option, none, some}
 use Prim.Native.Nat.{ℕ, suc}
-use lib.ListN.{get_elem?}
 use Rattle.bus.proofs.Tests.{by_test}
 use Rattle.bus.proofs.Lists.{no_element}
 use Rattle.bank.specs.declared.refusal.Refusal.{Refusal}
@@ -17,7 +16,6 @@ use Rattle.bank.specs.Fields.{luminaire_fields}
 use Rattle.bank.specs.Writable.{write_checks, text_checks}
 use Rattle.bank.proofs.Checks.{refused_first, passed_first, none_first, passed}
 use Rattle.bank.proofs.TextChecks.{other, text_passes, text_taken_exactly}
-use Rattle.records.specs.declared.ResultUsize.TheVariants.{Err}
 use Rattle.records.specs.declared.luminaire_write.Plan.{Plan}
 use Rattle.records.specs.Writes.{gather, wanted_number, is_for}
 use Rattle.records.specs.Plan.{number_checks, write_text_checks, if_wanted, field_checks, plan_checks, stores_of, short_slices, lay_checks, planned, AsBefore, PlansAcceptedAsBefore, RefusedByte, FirstUnprintable}
@@ -27,25 +25,25 @@ use Rattle.records.proofs.Refusals.{first_none}
 
 -- ---- plans are accepted as before
 
-gather_passed : (g : ℕ → LuminaireField → List Check) (fs : List LuminaireField) → ((i : ℕ) (f : LuminaireField) → get_elem? fs i ≡ some f → first_of (g i f) ≡ none) → first_of (gather g fs) ≡ none
+gather_passed : (g : ℕ → LuminaireField → List Check) (fs : List LuminaireField) → ((i : ℕ) (f : LuminaireField) → slice_get fs i ≡ Some f → first_of (g i f) ≡ None) → first_of (gather g fs) ≡ None
 gather_passed g [] h = first_none
 gather_passed g (f ∷ fs) h = passed_first (g 0 f) (gather (λ i. g (suc i)) fs) (h 0 f refl) ∙ gather_passed (λ i. g (suc i)) fs (λ i. h (suc i))
 
 module _ (p : Plan) (text : List ℕ) where
   module _ (a : AsBefore p text) where
-    number_passed : (i : ℕ) (f : LuminaireField) → get_elem? luminaire_fields i ≡ some f → (o : Option ℕ) → wanted_number p.numbers f.kind ≡ o → first_of (if_wanted o (number_checks p.layout f)) ≡ none
-    number_passed i f e none w = first_none
-    number_passed i f e (some value) w = a.no_1_to_7 i f value e w
+    number_passed : (i : ℕ) (f : LuminaireField) → slice_get luminaire_fields i ≡ Some f → (o : Option ℕ) → wanted_number p.numbers f.kind ≡ o → first_of (if_wanted o (number_checks p.layout f)) ≡ None
+    number_passed i f e None w = first_none
+    number_passed i f e (Some value) w = a.no_1_to_7 i f value e w
 
-    text_passed : (i : ℕ) (f : LuminaireField) → get_elem? luminaire_fields i ≡ some f → (b : Bool) → is_for p.text_field i ≡ b → first_of (cond b (write_text_checks p.layout f text) []) ≡ none
+    text_passed : (i : ℕ) (f : LuminaireField) → slice_get luminaire_fields i ≡ Some f → (b : Bool) → is_for p.text_field i ≡ b → first_of (cond b (write_text_checks p.layout f text) []) ≡ None
     text_passed i f e false w = first_none
     text_passed i f e true w = passed_first (write_checks p.layout f) (text_checks f text) (a.no_1_to_6 i f e w) ∙ text_passes f text (a.text_taken i f e w)
 
-    heads_passed : first_of (head_checks p) ≡ none
+    heads_passed : first_of (head_checks p) ≡ None
     unfolding first_of
     heads_passed = rw (a.no_9, a.no_10)
 
-    allowed : first_of (plan_checks p text) ≡ none
+    allowed : first_of (plan_checks p text) ≡ None
     unfolding plan_checks
     allowed =
         passed_first (head_checks p) (gather (field_checks p text) luminaire_fields) heads_passed
@@ -53,7 +51,7 @@ module _ (p : Plan) (text : List ℕ) where
         (λ i f e. passed_first (of_number p f) (of_text p text i f) (number_passed i f e (wanted_number p.numbers f.kind) refl)
         ∙ text_passed i f e (is_for p.text_field i) refl)
 
-  as_before : first_of (plan_checks p text) ≡ none → AsBefore p text
+  as_before : first_of (plan_checks p text) ≡ None → AsBefore p text
   unfolding plan_checks
   as_before sound =
       let first = passed (head_checks p) (none_first (head_checks p) (gather (field_checks p text) luminaire_fields) sound) in
@@ -77,7 +75,7 @@ plans_accepted_as_before p text os vs =
 -- checks whose refusals carry no value
 abbrev Plain : List Check → Type 0
 Plain [] = Unit {0}
-Plain (c ∷ cs) = (value_of c.refusal ≡ none) × Plain cs
+Plain (c ∷ cs) = (value_of c.refusal ≡ None) × Plain cs
 
 writes_plain : (l : Bank1Layout) (f : LuminaireField) → Plain (write_checks l f)
 writes_plain l f = (refl, (refl, (refl, (refl, (refl, (refl, tt))))))
@@ -88,7 +86,7 @@ number_plain l f value = (refl, (refl, (refl, (refl, (refl, (refl, (refl, tt))))
 module _ (p : Plan) (text : List ℕ) where
   -- where these checks are refused by 16, its index is right
   abbrev Tells : List Check → Type 0
-  Tells cs = (index : ℕ) → first_of cs ≡ some (ByteNotPrintable index) → RefusedByte p text index
+  Tells cs = (index : ℕ) → first_of cs ≡ Some (ByteNotPrintable index) → RefusedByte p text index
 
   plain_tells : (cs : List Check) → Plain cs → Tells cs
   unfolding first_of
@@ -99,18 +97,18 @@ module _ (p : Plan) (text : List ℕ) where
   both_tell xs ys a b i e = go (first_of xs) refl
     where
       go : (o : Option Refusal) → first_of xs ≡ o → RefusedByte p text i
-      go none n = b i (sym (passed_first xs ys n) ∙ e)
-      go (some r) n = a i (n ∙ sym (refused_first xs ys n) ∙ e)
+      go None n = b i (sym (passed_first xs ys n) ∙ e)
+      go (Some r) n = a i (n ∙ sym (refused_first xs ys n) ∙ e)
 
-  gather_tells : (g : ℕ → LuminaireField → List Check) (fs : List LuminaireField) → ((i : ℕ) (f : LuminaireField) → get_elem? fs i ≡ some f → Tells (g i f)) → Tells (gather g fs)
+  gather_tells : (g : ℕ → LuminaireField → List Check) (fs : List LuminaireField) → ((i : ℕ) (f : LuminaireField) → slice_get fs i ≡ Some f → Tells (g i f)) → Tells (gather g fs)
   gather_tells g [] h = plain_tells [] tt
   gather_tells g (f ∷ fs) h = both_tell (g 0 f) (gather (λ i. g (suc i)) fs) (h 0 f refl) (gather_tells (λ i. g (suc i)) fs (λ i. h (suc i)))
 
   number_tells : (f : LuminaireField) (o : Option ℕ) → Tells (if_wanted o (number_checks p.layout f))
-  number_tells f none = plain_tells [] tt
-  number_tells f (some value) = plain_tells (number_checks p.layout f value) (number_plain p.layout f value)
+  number_tells f None = plain_tells [] tt
+  number_tells f (Some value) = plain_tells (number_checks p.layout f value) (number_plain p.layout f value)
 
-  text_tells : (i : ℕ) (f : LuminaireField) → get_elem? luminaire_fields i ≡ some f → (b : Bool) → is_for p.text_field i ≡ b → Tells (cond b (write_text_checks p.layout f text) [])
+  text_tells : (i : ℕ) (f : LuminaireField) → slice_get luminaire_fields i ≡ Some f → (b : Bool) → is_for p.text_field i ≡ b → Tells (cond b (write_text_checks p.layout f text) [])
   text_tells i f e false w = plain_tells [] tt
   text_tells i f e true w =
       both_tell (write_checks p.layout f) (text_checks f text) (plain_tells (write_checks p.layout f) (writes_plain p.layout f))
@@ -138,8 +136,8 @@ first_unprintable p text os vs index e = go (first_of (lay_checks p text os vs))
     slices = short_slices (stores_of p text) os vs
 
     go : (o : Option Refusal) → first_of (lay_checks p text os vs) ≡ o → RefusedByte p text index
-    go none f = no_error (sym (rw f at e))
-    go (some r) f =
+    go None f = no_error (sym (rw f at e))
+    go (Some r) f =
         let told : Err r ≡ Err (ByteNotPrintable index) = rw f at e in
         let same : r ≡ ByteNotPrintable index = cc in
-        both_tell p text (plan_checks p text) (slices ∷ []) (plan_tells p text) (plain_tells p text (slices ∷ []) (refl, tt)) index (f ∙ ap some same)
+        both_tell p text (plan_checks p text) (slices ∷ []) (plan_tells p text) (plain_tells p text (slices ∷ []) (refl, tt)) index (f ∙ ap Some same)

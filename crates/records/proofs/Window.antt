@@ -1,9 +1,10 @@
 -- Laws of an identity: the parts of its window, the window of bank 0, and its theorem.
 -- Assumes nothing.
+use Rattle.std.proofs.lemmas.Option.{same_Some}
+use Rattle.std.specs.Prelude.{None, Option, Some, option_map}
 use mathlib.Core.Path.{◌≡◌, refl, ◌∙◌, sym, ap}
 use mathlib.Core.Bool.{cond}
 use mathlib.Core.List.{List, [], ◌∷◌}
-use mathlib.Core.Option.{some, Option, none, bind, some-injective, map}
 use Prim.Native.Nat.{ℕ, ◌≤◌, ◌<◌, ◌+◌, zero-le}
 use native.Mathlib.Nat.{not-suc-le-zero}
 use native.Mathlib.Omega.{arith}
@@ -13,7 +14,6 @@ use lib.ListN.{length, get_or, take, drop, length-drop}
 use lib.Seq.{drop-cons, length-take-le}
 use Rattle.bus.specs.Number.{number}
 use Rattle.bus.specs.Value.{bytes_at}
-use Rattle.bus.specs.Options.{option_u8, option_u64}
 use Rattle.bus.proofs.Lists.{no_element}
 use Rattle.bus.proofs.Tests.{by_test}
 use Rattle.records.specs.declared.identity.IdentityRead.{IdentityRead}
@@ -27,7 +27,7 @@ use Rattle.records.proofs.Places.{whole, part_reads_as_bank, behind}
 -- a window says what its three parts say
 pub in_window : {gtin number index : List ℕ} (window : List ℕ) → length window ≡ 24
     → gtin ≡ take 6 (drop 0 window) → number ≡ take 8 (drop 8 window) → index ≡ take 1 (drop 23 window)
-    → of_window window ≡ known_if (identity_of (unless_ff (some gtin)) (unless_ff (some number)) (unless_ff (some index)))
+    → of_window window ≡ known_if (identity_of (unless_ff (Some gtin)) (unless_ff (Some number)) (unless_ff (Some index)))
 in_window window h g n i =
     rw (eq-eqb (length window) 24 h, whole 3 window 3 6 (omega arith) (omega arith), whole 3 window 11 8 (omega arith) (omega arith), whole 3 window 26 1 (omega arith) (omega arith), g, n, i)
 
@@ -66,23 +66,22 @@ module _ (bank : List ℕ) where
 
 -- the identity that is known, if any
 abbrev known : IdentityRead → Option DeviceIdentity
-known Unread = none
-known IdentityRead.Unprovable = none
-known (Known d) = some d
+known Unread = None
+known IdentityRead.Unprovable = None
+known (Known d) = Some d
 
 known_if_lem : (o : Option DeviceIdentity) → known (known_if o) ≡ o
-known_if_lem none = refl
-known_if_lem (some d) = refl
+known_if_lem None = refl
+known_if_lem (Some d) = refl
 
 -- all three parts of it are there
-all_there : (g n i : Option ℕ) (d : DeviceIdentity) → identity_of g n i ≡ some d → (g ≡ some d.gtin) × (n ≡ some d.identification_number) × (i ≡ some d.logical_gear_index)
-unfolding bind
-all_there none n i d e = no_element e
-all_there (some g) none i d e = no_element e
-all_there (some g) (some n) none d e = no_element e
-all_there (some g) (some n) (some i) d e =
-    let same : identity g n i ≡ d = some-injective _ _ e in
-    (ap (λ (x : DeviceIdentity). some x.gtin) same, ap (λ (x : DeviceIdentity). some x.identification_number) same, ap (λ (x : DeviceIdentity). some x.logical_gear_index) same)
+all_there : (g n i : Option ℕ) (d : DeviceIdentity) → identity_of g n i ≡ Some d → (g ≡ Some d.gtin) × (n ≡ Some d.identification_number) × (i ≡ Some d.logical_gear_index)
+all_there None n i d e = no_element e
+all_there (Some g) None i d e = no_element e
+all_there (Some g) (Some n) None d e = no_element e
+all_there (Some g) (Some n) (Some i) d e =
+    let same : identity g n i ≡ d = same_Some _ _ e in
+    (ap (λ (x : DeviceIdentity). Some x.gtin) same, ap (λ (x : DeviceIdentity). Some x.identification_number) same, ap (λ (x : DeviceIdentity). Some x.logical_gear_index) same)
 
 -- what the window says, it says of bank 0
 known_in_window : (bank : List ℕ) (d : DeviceIdentity) → of_bank0 bank ≡ Known d → of_window (take 24 (drop 3 bank)) ≡ Known d
@@ -103,15 +102,15 @@ known_in_window bank d e =
 
 -- a number that is there, in a part of bank 0 and in all of it
 module _ (bank : List ℕ) (o n : ℕ) (v : ℕ) (some_bytes : 1 ≤ n) where
-  number_in_bank : number_at 3 (take 24 (drop 3 bank)) o n ≡ some v → (bs : List ℕ) × ((field_at 0 bank o n ≡ some bs) × (unless_ff (some bs) ≡ some v))
+  number_in_bank : number_at 3 (take 24 (drop 3 bank)) o n ≡ Some v → (bs : List ℕ) × ((field_at 0 bank o n ≡ Some bs) × (unless_ff (Some bs) ≡ Some v))
   number_in_bank e = by (field_at 3 (take 24 (drop 3 bank)) o n) refl
     where
-      by : (f : Option (List ℕ)) → field_at 3 (take 24 (drop 3 bank)) o n ≡ f → (bs : List ℕ) × ((field_at 0 bank o n ≡ some bs) × (unless_ff (some bs) ≡ some v))
-      by none f = no_element (ap unless_ff (sym f) ∙ e)
-      by (some bs) f = (bs, ((part_reads_as_bank bank 3 24 o n some_bytes).of_bank f, ap unless_ff (sym f) ∙ e))
+      by : (f : Option (List ℕ)) → field_at 3 (take 24 (drop 3 bank)) o n ≡ f → (bs : List ℕ) × ((field_at 0 bank o n ≡ Some bs) × (unless_ff (Some bs) ≡ Some v))
+      by None f = no_element (ap unless_ff (sym f) ∙ e)
+      by (Some bs) f = (bs, ((part_reads_as_bank bank 3 24 o n some_bytes).of_bank f, ap unless_ff (sym f) ∙ e))
 
 -- its number is that of its bytes
-number_is : (bs : List ℕ) {v : ℕ} → unless_ff (some bs) ≡ some v → some (number bs) ≡ some v
+number_is : (bs : List ℕ) {v : ℕ} → unless_ff (Some bs) ≡ Some v → Some (number bs) ≡ Some v
 number_is bs e =
     by_test (all_ff bs)
     (λ t. no_element (rw t at e))
@@ -129,14 +128,14 @@ as_recorded bank d e =
     let n = number_in_bank bank 11 8 d.identification_number (omega arith) parts.1 in
     let i = number_in_bank bank 26 1 d.logical_gear_index (omega arith) parts.2 in
     record {
-      gtin = ap (λ (f : Option (List ℕ)). option_u64 (unless_ff f)) g.1.0 ∙ ap option_u64 g.1.1;
-      number = ap (λ (f : Option (List ℕ)). option_u64 (unless_ff f)) n.1.0 ∙ ap option_u64 n.1.1;
-      index = ap (λ (f : Option (List ℕ)). option_u8 (map number f)) i.1.0 ∙ ap option_u8 (number_is i.0 i.1.1);
+      gtin = ap (λ (f : Option (List ℕ)). (unless_ff f)) g.1.0 ∙ g.1.1;
+      number = ap (λ (f : Option (List ℕ)). (unless_ff f)) n.1.0 ∙ n.1.1;
+      index = ap (λ (f : Option (List ℕ)). (option_map number f)) i.1.0 ∙ (number_is i.0 i.1.1);
     })
     (λ t. no_element (ap known (rw t at k)))
 
 -- a part of an identity that is there, is in the window
-there_to : (bank : List ℕ) {v : ℕ} → number_at 0 bank 26 1 ≡ some v → 27 ≤ length bank
+there_to : (bank : List ℕ) {v : ℕ} → number_at 0 bank 26 1 ≡ Some v → 27 ≤ length bank
 there_to bank e =
     by_test (leb 27 (length bank))
     (λ t. leb-true 27 (length bank) t)
@@ -147,8 +146,7 @@ in_window_as_in_bank bank o n l h k some_bytes =
     let f = whole 0 bank o n zero-le (omega arith) in
     ap unless_ff ((part_reads_as_bank bank 3 24 o n some_bytes).present h k f ∙ sym f)
 
-known_if_there : (bank : List ℕ) {g n i : ℕ} → 26 ≤ get_or bank 0 0 → number_at 0 bank 3 6 ≡ some g → number_at 0 bank 11 8 ≡ some n → number_at 0 bank 26 1 ≡ some i → of_bank0 bank ≡ Known (identity g n i)
-unfolding bind
+known_if_there : (bank : List ℕ) {g n i : ℕ} → 26 ≤ get_or bank 0 0 → number_at 0 bank 3 6 ≡ Some g → number_at 0 bank 11 8 ≡ Some n → number_at 0 bank 26 1 ≡ Some i → of_bank0 bank ≡ Known (identity g n i)
 known_if_there bank h g n i =
     let l = there_to bank i in
     let w = take 24 (drop 3 bank) in

@@ -1,7 +1,6 @@
 -- 01, "The records": "Implemented parts (006)", and the configurations of the same file (DiiA 098bp, table 5).
 -- Assumes nothing.
-use Rattle.std.specs.Prelude.{◌≡◌, Bool, cond, List, [], ◌∷◌, ◌++◌, ℕ, ◌+◌, ◌/◌, ◌%◌, ◌^◌, eqb, leb}
-use Rattle.std.proofs.Math.Option.{Option, none, some}
+use Rattle.std.specs.Prelude.{◌≡◌, Bool, cond, List, [], ◌∷◌, ◌++◌, ℕ, ◌+◌, ◌/◌, ◌%◌, ◌^◌, eqb, leb, None, Option, Some}
 use Rattle.bus.specs.Maps.{first_with}
 use Rattle.records.specs.declared.bus_unit.EmergencyGearType.{EmergencyGearType}
 use Rattle.records.specs.declared.bus_unit.EmergencyGearType.TheVariants.{A, B, C, D}
@@ -23,10 +22,10 @@ letter_of C = 0x43
 letter_of D = 0x44
 
 abbrev pub emergency_letter : BusUnitConfiguration → Option ℕ
-emergency_letter (Defined n) = none
-emergency_letter (EmergencyType t) = some (letter_of t)
-emergency_letter (Reserved n) = none
-emergency_letter (ManufacturerSpecific n) = none
+emergency_letter (Defined n) = None
+emergency_letter (EmergencyType t) = Some (letter_of t)
+emergency_letter (Reserved n) = None
+emergency_letter (ManufacturerSpecific n) = None
 
 -- the byte of each configuration
 abbrev pub raw_of : BusUnitConfiguration → ℕ
@@ -40,8 +39,8 @@ unfoldable pub emergency : ℕ → Option EmergencyGearType
 emergency n = first_with (λ t. eqb n (gear_byte t)) (A ∷ B ∷ C ∷ D ∷ [])
 
 abbrev pub configuration : ℕ → Option EmergencyGearType → BusUnitConfiguration
-configuration n (some t) = EmergencyType t
-configuration n none = cond (leb n 8) (Defined n) (cond (leb n 191) (Reserved n) (ManufacturerSpecific n))
+configuration n (Some t) = EmergencyType t
+configuration n None = cond (leb n 8) (Defined n) (cond (leb n 191) (Reserved n) (ManufacturerSpecific n))
 
 -- the configuration of each byte: 0 to 8 are defined, 9 to 12 emergency gear, those to 191 reserved, the others the
 -- manufacturer's

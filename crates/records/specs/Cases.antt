@@ -1,15 +1,8 @@
 -- 01, "Cases ([P]: proved)": one table, which `proofs/Cases.antt` proves as a whole.
 -- Assumes nothing.
-use Rattle.std.specs.Prelude.{◌≡◌, Bool, true, false, cond, List, [], ◌∷◌, map, ℕ, zero, suc, ℤ, pos, neg_ℤ, length}
-use Rattle.std.proofs.Math.Option.{Option, none, some}
-use Rattle.std.proofs.Math.ListN.{get_elem?}
-use Rattle.bus.specs.declared.OptionU8.{OptionU8}
+use Rattle.std.specs.Prelude.{◌≡◌, Bool, true, false, cond, List, [], ◌∷◌, map, ℕ, zero, suc, ℤ, pos, neg_ℤ, length, Err, None, Ok, Option, Result, Some, slice_get}
 use Rattle.bus.specs.declared.ValueWidth.TheVariants.{I8}
-use Rattle.bus.specs.declared.OptionU64.{OptionU64}
 use Rattle.bus.specs.declared.part251.LuminaireFormat.TheVariants.{V3, V4}
-use Rattle.bank.specs.declared.OptionBool.{OptionBool}
-use Rattle.bank.specs.declared.OptionU16.{OptionU16}
-use Rattle.bank.specs.declared.OptionUsize.{OptionUsize}
 use Rattle.bank.specs.declared.part251.CctReading.{CctReading}
 use Rattle.bank.specs.declared.part251.CctReading.TheVariants.{Kelvin, Part209Implemented}
 use Rattle.bank.specs.declared.part251.LightDistributionType.{LightDistributionType}
@@ -17,8 +10,6 @@ use Rattle.bank.specs.declared.part251.LightDistributionType.TheVariants.{«Type
 use Rattle.bank.specs.declared.read_out.ReadOut.{ReadOut}
 use Rattle.bank.specs.declared.luminaire_write.LuminaireField.{LuminaireField}
 use Rattle.bank.specs.declared.luminaire_write.Bank1Layout.{Bank1Layout}
-use Rattle.bank.specs.declared.luminaire_write.ResultLuminaireFormat.{ResultLuminaireFormat}
-use Rattle.bank.specs.declared.luminaire_write.ResultLuminaireFormat.TheVariants.{Ok, Err}
 use Rattle.bank.specs.Refusal.{number_of, checked}
 use Rattle.bank.specs.Readings.{cct_of, type_of}
 use Rattle.bank.specs.Fields.{luminaire_fields, from_header}
@@ -32,6 +23,8 @@ use Rattle.records.specs.declared.luminaire_write.Plan.{Plan}
 use Rattle.records.specs.Text.{escaped}
 use Rattle.records.specs.Writes.{Store}
 use Rattle.records.specs.Plan.{plan_checks, stores_of}
+use Rattle.bus.specs.declared.part251.LuminaireFormat.{LuminaireFormat}
+use Rattle.bank.specs.declared.refusal.Refusal.{Refusal}
 
 -- what a case speaks of: a number, the lengths of a read-out's chunks, a reading, a scale, a colour temperature, a
 -- distribution type, the bytes of a text, the stores of a plan
@@ -67,9 +60,9 @@ read_out_of bank len budget = lengths (chunks len (fresh bank len) budget)
 abbrev signed_byte : ℕ → Answer
 signed_byte b = reading (reading_at 0 (b ∷ []) 0 I8)
 
-abbrev says : OptionU64 → Bool → Bool → Bool → Answer
+abbrev says : Option ℕ → Bool → Bool → Bool → Answer
 says value missing unavailable saturated =
-    reading (some (record {
+    reading (Some (record {
       value = value;
       not_implemented = missing;
       temporarily_unavailable = unavailable;
@@ -80,20 +73,20 @@ abbrev scale_byte : ℕ → Answer
 scale_byte b = scale (scale_at 0 (b ∷ []) 0)
 
 -- the number of a refusal, 0 for none
-abbrev refusal_of : ResultLuminaireFormat → ℕ
+abbrev refusal_of : Result LuminaireFormat Refusal → ℕ
 refusal_of (Ok v) = 0
 refusal_of (Err r) = number_of r
 
 abbrev writing : Option LuminaireField → Bank1Layout → Answer
-writing (some f) l = number (refusal_of (check_writable l f))
-writing none l = number 0
+writing (Some f) l = number (refusal_of (check_writable l f))
+writing None l = number 0
 
 -- the second of the 18 fields
 abbrev field_year : Bank1Layout → Answer
-field_year l = writing (get_elem? luminaire_fields 1) l
+field_year l = writing (slice_get luminaire_fields 1) l
 
 abbrev nothing_read : Bank1Layout
-nothing_read = record { implemented = OptionBool.None; content_format_id = OptionU16.None; last_offset = OptionU8.None }
+nothing_read = record { implemented = None; content_format_id = None; last_offset = None }
 
 -- "Format 5, last offset C9 hex, empty mask": the plan of a text
 abbrev no_numbers : LuminaireNumbers
@@ -116,9 +109,9 @@ no_numbers =
 abbrev text_plan : ℕ → Plan
 text_plan index =
     record {
-      layout = record { implemented = OptionBool.Some true; content_format_id = OptionU16.Some 5; last_offset = OptionU8.Some 0xC9 };
+      layout = record { implemented = Some true; content_format_id = Some 5; last_offset = Some 0xC9 };
       numbers = no_numbers;
-      text_field = OptionUsize.Some index;
+      text_field = Some index;
     }
 
 -- its stores, or the number of its refusal
@@ -147,12 +140,12 @@ cases =
     ∷ read_out_of 202 16 5 is lengths (5 ∷ 6 ∷ 5 ∷ [])
     ∷ read_out_of 202 16 8 is lengths (5 ∷ 7 ∷ 4 ∷ [])
     -- "Signed byte: 7F hex not implemented, 7E unavailable, 7D saturated"
-    ∷ signed_byte 0x7F is says OptionU64.None true false false
-    ∷ signed_byte 0x7E is says OptionU64.None false true false
-    ∷ signed_byte 0x7D is says (OptionU64.Some 0x7D) false false true
+    ∷ signed_byte 0x7F is says None true false false
+    ∷ signed_byte 0x7E is says None false true false
+    ∷ signed_byte 0x7D is says (Some 0x7D) false false true
     -- "Scale: FF is −1, F9 absent"
-    ∷ scale_byte 0xFF is scale (some (neg_ℤ (pos 1)))
-    ∷ scale_byte 0xF9 is scale none
+    ∷ scale_byte 0xFF is scale (Some (neg_ℤ (pos 1)))
+    ∷ scale_byte 0xF9 is scale None
     -- "Colour temperature 17000 shown, 17001 unknown, 65534 part 209, 65535 unknown"
     ∷ temperature (cct_of 17000) is temperature (Kelvin 17000)
     ∷ temperature (cct_of 17001) is temperature CctReading.Unknown

@@ -1,14 +1,9 @@
 -- 01, "A cut plan, read back": the claim, in 01's order. `proofs/Claim.antt` proves it.
 -- Assumes nothing.
-use Rattle.std.specs.Prelude.{◌≡◌, true, false, cond, ℕ, ◌+◌, ◌≤◌, ◌<◌, length, take, drop}
-use mathlib.Core.List.{List, [], ◌∷◌, ◌++◌, map, head?}
-use Rattle.std.proofs.Math.Option
-use Rattle.std.proofs.Math.Option.{Option, none, some, bind}
-use Rattle.std.proofs.Math.ListN.{get_elem?}
+use Rattle.std.specs.Prelude.{◌≡◌, true, false, cond, ℕ, ◌+◌, ◌≤◌, ◌<◌, length, take, drop, None, Ok, Option, Some, option_and_then, option_map, slice_get}
+use mathlib.Core.List.{List, [], ◌∷◌, ◌++◌, map}
 use Rattle.bus.specs.Number.{low_bytes}
-use Rattle.bank.specs.declared.OptionU32.{OptionU32}
 use Rattle.bank.specs.declared.read_out.ReadOut.{ReadOut}
-use Rattle.bank.specs.declared.read_out.ResultReadOut.{ResultReadOut}
 use Rattle.bank.specs.declared.luminaire_write.NumberRule.{NumberRule}
 use Rattle.bank.specs.declared.luminaire_write.FieldKind.{FieldKind}
 use Rattle.bank.specs.declared.luminaire_write.FieldKind.TheVariants.{LayoutId, Number, Text}
@@ -18,8 +13,6 @@ use Rattle.bank.specs.Writable.{format_in}
 use Rattle.bank.specs.Chunk.{ChunkRule, Bounded, chunk_len}
 use Rattle.bank.specs.ReadOut.{fresh, advanced, is_done, starting}
 use Rattle.bank.specs.Calls.{Call, State, state_of, answer, answers_of, after, accepted, sum, HoldsChunks}
-use Rattle.records.specs.declared.ResultUsize.{ResultUsize}
-use Rattle.records.specs.declared.attributes.OptionLuminaireValue.{OptionLuminaireValue}
 use Rattle.records.specs.declared.luminaire_write.Plan.{Plan}
 use Rattle.records.specs.Places.{is_there}
 use Rattle.records.specs.Text.{as_text}
@@ -34,7 +27,7 @@ use Rattle.records.specs.Cut.{cut_bank, stores_for, taken_in}
 pub record OldBank (old : List ℕ) : Type 0 where
   pub some_byte : 1 ≤ length old
   pub few : length old ≤ 256
-  pub first_says : (first : ℕ) → head? old ≡ some first → length old ≡ first + 1
+  pub first_says : (first : ℕ) → slice_get old 0 ≡ Some first → length old ≡ first + 1
 
 -- "the plan's layout is `Bank1Layout::from_header` of it", and the plan is accepted, with slices that are lent for its stores
 pub record Accepted (old : List ℕ) (p : Plan) (text : List ℕ) : Type 0 where
@@ -42,7 +35,7 @@ pub record Accepted (old : List ℕ) (p : Plan) (text : List ℕ) : Type 0 where
   pub offsets : List ℕ
   pub values : List ℕ
   pub count : ℕ
-  pub accepts : planned p text offsets values ≡ ResultUsize.Ok count
+  pub accepts : planned p text offsets values ≡ Ok count
 
 -- ---- the fields of a plan
 
@@ -50,26 +43,26 @@ module _ (p : Plan) (text : List ℕ) where
   -- what the record gives for the bytes that are made of a number, where the plan has the number
   abbrev pub number_as : LuminaireField → ℕ → NumberRule → (List ℕ → List ℕ) → Option Reading
   number_as f patch r bytes_of =
-      Option.map (λ value. a_number (number_read r (format_in p.layout.content_format_id) (some (bytes_of (low_bytes f.len value))))) (number_for p.numbers patch)
+      option_map (λ value. a_number (number_read r (format_in p.layout.content_format_id) (Some (bytes_of (low_bytes f.len value))))) (number_for p.numbers patch)
 
   -- "Wanted is a text's own bytes, or what the record gives for the plan's number in its field's width."
   abbrev pub wanted_of : ℕ → LuminaireField → FieldKind → Option Reading
-  wanted_of i f LayoutId = none
+  wanted_of i f LayoutId = None
   wanted_of i f (Number patch r) = number_as f patch r (λ new. new)
-  wanted_of i f (Text t) = cond (is_for p.text_field i) (some (a_text (as_text (limit_for t) text))) none
+  wanted_of i f (Text t) = cond (is_for p.text_field i) (Some (a_text (as_text (limit_for t) text))) None
 
   abbrev pub wanted : ℕ → Option Reading
-  wanted i = bind (get_elem? luminaire_fields i) (λ f. wanted_of i f f.kind)
+  wanted i = option_and_then (λ f. wanted_of i f f.kind) (slice_get luminaire_fields i)
 
   -- what a field reads as where so many of its stores were made, and not all: a text is empty; a number has "new leading
   -- bytes", and its old ones behind
   abbrev pub begun_of : List ℕ → ℕ → LuminaireField → FieldKind → Option Reading
-  begun_of old new f LayoutId = none
+  begun_of old new f LayoutId = None
   begun_of old new f (Number patch r) = number_as f patch r (λ bytes. take new bytes ++ drop new (take f.len (drop f.offset old)))
-  begun_of old new f (Text t) = some (a_text (as_text (limit_for t) []))
+  begun_of old new f (Text t) = Some (a_text (as_text (limit_for t) []))
 
   abbrev pub begun : List ℕ → ℕ → ℕ → Option Reading
-  begun old new i = bind (get_elem? luminaire_fields i) (λ f. begun_of old new f f.kind)
+  begun old new i = option_and_then (λ f. begun_of old new f f.kind) (slice_get luminaire_fields i)
 
 -- a planned field "whose stores were all made"
 pub record AllMade (p : Plan) (text : List ℕ) (k i : ℕ) : Type 0 where
@@ -110,15 +103,15 @@ pub record Answered (chunk : ChunkRule) (bank buffer : List ℕ) (calls before :
   pub next_is : (after chunk (begin bank buffer) before).out ≡ standing chunk bank buffer before
   -- "each call answers what "The read-out" above gives at that offset"
   pub answers_so :
-      get_elem? (answers_of chunk (begin bank buffer) calls) (length before)
-      ≡ some (answer chunk (state_of (standing chunk bank buffer before) buffer) c)
+      slice_get (answers_of chunk (begin bank buffer) calls) (length before)
+      ≡ Some (answer chunk (state_of (standing chunk bank buffer before) buffer) c)
 
 -- ---- what is concluded
 
 -- of an old bank, a plan, a cut of it, the bank that the cut leaves, a buffer and a list of calls
 pub record CutReadsBack (chunk : ChunkRule) (old : List ℕ) (p : Plan) (text : List ℕ) (k : ℕ) (bank buffer : List ℕ) (calls : List Call) : Type 0 where
   -- 0. the read-out is started: "newly started with the cut bank's length"
-  pub starts : starting 1 (length bank) ≡ ResultReadOut.Ok (fresh 1 (length bank))
+  pub starts : starting 1 (length bank) ≡ Ok (fresh 1 (length bank))
   -- 1. "The next offset is the sum of the accepted chunks' lengths, each call answers what "The read-out" above gives at that
   -- offset": before each call, and refused calls too
   pub each_call : (before : List Call) (c : Call) (behind : List Call) → calls ≡ before ++ c ∷ behind → Answered chunk bank buffer calls before c
@@ -133,8 +126,8 @@ pub record CutReadsBack (chunk : ChunkRule) (old : List ℕ) (p : Plan) (text : 
   -- in the old bank."
   pub outside :
       Done chunk bank buffer calls → (j : ℕ) →
-      ((i : ℕ) (f : LuminaireField) → get_elem? luminaire_fields i ≡ some f → f.offset ≤ j → j < field_end f → ⊥) →
-      get_elem? (now_of chunk bank buffer calls) j ≡ get_elem? old j
+      ((i : ℕ) (f : LuminaireField) → slice_get luminaire_fields i ≡ Some f → f.offset ≤ j → j < field_end f → ⊥) →
+      slice_get (now_of chunk bank buffer calls) j ≡ slice_get old j
   -- 5. "A field reads as the luminaire record gives it at start offset 0, absent included: now from the buffer's first bytes":
   -- once done, every planned field whose stores were all made reads as wanted
   pub whole : Done chunk bank buffer calls → (i : ℕ) → AllMade p text k i → reads 0 (now_of chunk bank buffer calls) i ≡ wanted p text i
@@ -170,5 +163,5 @@ abbrev pub EveryWantedNumberShown : Type 0
 EveryWantedNumberShown =
     (old : List ℕ) (p : Plan) (text : List ℕ) → OldBank old → Accepted old p text →
     (i : ℕ) (f : LuminaireField) (patch : ℕ) (r : NumberRule) (value : ℕ) →
-    get_elem? luminaire_fields i ≡ some f → f.kind ≡ Number patch r → number_for p.numbers patch ≡ some value →
-    wanted p text i ≡ some (a_number (OptionLuminaireValue.Some (record { raw = value; value = OptionU32.Some value; part209_implemented = false })))
+    slice_get luminaire_fields i ≡ Some f → f.kind ≡ Number patch r → number_for p.numbers patch ≡ Some value →
+    wanted p text i ≡ Some (a_number (Some (record { raw = value; value = Some value; part209_implemented = false })))

@@ -1,8 +1,6 @@
 -- 01, "A cut plan, read back": what a cut leaves of a plan's stores in a bank, and which of them are a field's.
 -- Assumes nothing.
-use Rattle.std.specs.Prelude.{◌≡◌, List, [], ◌∷◌, ℕ, ◌-◌, length, take, drop, set}
-use Rattle.std.proofs.Math.Option.{Option, none, some}
-use Rattle.std.proofs.Math.ListN.{get_elem?}
+use Rattle.std.specs.Prelude.{◌≡◌, List, [], ◌∷◌, ℕ, ◌-◌, length, take, drop, set, None, Option, Some, slice_get}
 use Rattle.bank.specs.declared.luminaire_write.LuminaireField.{LuminaireField}
 use Rattle.bank.specs.Fields.{luminaire_fields}
 use Rattle.records.specs.declared.luminaire_write.Plan.{Plan}
@@ -20,13 +18,13 @@ abbrev pub cut_bank : List Store → ℕ → List ℕ → List ℕ
 cut_bank ss k old = stored (take k ss) old
 
 abbrev stores_in : Plan → List ℕ → ℕ → Option LuminaireField → List Store
-stores_in p text i none = []
-stores_in p text i (some f) = stores_at p.numbers p.text_field text i f
+stores_in p text i None = []
+stores_in p text i (Some f) = stores_at p.numbers p.text_field text i f
 
 module _ (p : Plan) (text : List ℕ) where
   -- "A field's stores are those of its write."
   abbrev pub stores_for : ℕ → List Store
-  stores_for i = stores_in p text i (get_elem? luminaire_fields i)
+  stores_for i = stores_in p text i (slice_get luminaire_fields i)
 
   -- how many stores stand before those of a field in the list
   abbrev pub before : ℕ → ℕ

@@ -1,25 +1,23 @@
 -- 01, "A cut plan, read back", as one call runs it whole: a plan for a bank, its stores up to the cut, and the calls. What
 -- the call leaves and answers is what the claim speaks of.
 -- Assumes nothing.
-use Rattle.std.specs.Prelude.{◌≡◌, List, ◌∷◌, ◌++◌, map, ℕ, ◌≤◌, ◌<◌, length}
-use Rattle.std.proofs.Math.Option.{some}
-use Rattle.std.proofs.Math.ListN.{get_elem?}
+use Rattle.std.specs.Prelude.{◌≡◌, List, ◌∷◌, ◌++◌, ℕ, ◌≤◌, ◌<◌, length, Err, Ok, Option, Result, Some, slice_get}
 use Rattle.bus.specs.Value.{laid_into}
-use Rattle.bank.specs.declared.OptionUsize.{OptionUsize}
 use Rattle.bank.specs.declared.refusal.Refusal.{Refusal}
-use Rattle.bank.specs.declared.read_out.ResultReadOut.{ResultReadOut}
+use Rattle.bank.specs.declared.call_list.Answer.{Answer}
 use Rattle.bank.specs.Refusal.{Check, checked}
 use Rattle.bank.specs.Fields.{from_header}
 use Rattle.bank.specs.Chunk.{chunk_len}
 use Rattle.bank.specs.ReadOut.{fresh, invalid}
-use Rattle.bank.specs.Calls.{Call, State, state_of, answer, answers_of, after, HoldsChunks, answer_number}
+use Rattle.bank.specs.Calls.{Call, State, state_of, answer, answers_of, after, HoldsChunks}
 use Rattle.records.specs.declared.luminaire_write.LuminaireNumbers.{LuminaireNumbers}
 use Rattle.records.specs.declared.luminaire_write.Plan.{Plan}
 use Rattle.records.specs.Plan.{plan_checks, stores_of}
 use Rattle.records.specs.Cut.{cut_bank}
 use Rattle.records.specs.Claim.{OldBank, Accepted, begin, standing, CutReadsBack}
+use Rattle.bank.specs.declared.read_out.ReadOut.{ReadOut}
 
-module _ (numbers : LuminaireNumbers) (which : OptionUsize) (text : List ℕ) (old : List ℕ) where
+module _ (numbers : LuminaireNumbers) (which : Option ℕ) (text : List ℕ) (old : List ℕ) where
   -- "the plan's layout is `Bank1Layout::from_header` of it"
   abbrev pub plan_for : Plan
   plan_for = record { layout = from_header old; numbers = numbers; text_field = which }
@@ -41,46 +39,45 @@ module _ (numbers : LuminaireNumbers) (which : OptionUsize) (text : List ℕ) (o
       state_behind = after chunk_len (begin cut_of buffer) calls
 
       -- the read-out last handed back
-      abbrev pub read_back : ResultReadOut
-      read_back = checked run_checks ResultReadOut.Err (ResultReadOut.Ok state_behind.out)
+      abbrev pub read_back : Result ReadOut Refusal
+      read_back = checked run_checks Err (Ok state_behind.out)
 
       abbrev pub buffer_behind : List ℕ
       buffer_behind = checked run_checks (λ _. buffer) state_behind.buffer
 
-      -- the answer of each call, in a number
-      abbrev pub answers_behind : List ℕ → List ℕ
-      answers_behind answers =
-          checked run_checks (λ _. answers) (laid_into (map answer_number (answers_of chunk_len (begin cut_of buffer) calls)) answers)
+      -- the answer of each call
+      abbrev pub answers_behind : List Answer → List Answer
+      answers_behind answers = checked run_checks (λ _. answers) (laid_into (answers_of chunk_len (begin cut_of buffer) calls) answers)
 
 -- A run of an accepted plan is not refused, and it is the one of which the claim holds.
-pub record RunReadsBack (numbers : LuminaireNumbers) (which : OptionUsize) (text old : List ℕ) (k : ℕ) (buffer : List ℕ) (calls : List Call) : Type 0 where
-  pub runs : read_back numbers which text old k buffer calls ≡ ResultReadOut.Ok (state_behind numbers which text old k buffer calls).out
+pub record RunReadsBack (numbers : LuminaireNumbers) (which : Option ℕ) (text old : List ℕ) (k : ℕ) (buffer : List ℕ) (calls : List Call) : Type 0 where
+  pub runs : read_back numbers which text old k buffer calls ≡ Ok (state_behind numbers which text old k buffer calls).out
   pub leaves_cut : bank_behind numbers which text old k ≡ cut_of numbers which text old k
   pub leaves_buffer : buffer_behind numbers which text old k buffer calls ≡ (state_behind numbers which text old k buffer calls).buffer
   -- its answers begin with those of the claim's conclusion 1: each call answers "what "The read-out" above gives" at the sum of the
   -- accepted chunks' lengths
   pub lays_answers :
-      (answers : List ℕ) (before : List Call) (c : Call) (behind : List Call) → calls ≡ before ++ c ∷ behind → length before < length answers →
-      get_elem? (answers_behind numbers which text old k buffer calls answers) (length before)
-      ≡ some (answer_number (answer chunk_len (state_of (standing chunk_len (cut_of numbers which text old k) buffer before) buffer) c))
+      (answers : List Answer) (before : List Call) (c : Call) (behind : List Call) → calls ≡ before ++ c ∷ behind → length before < length answers →
+      slice_get (answers_behind numbers which text old k buffer calls answers) (length before)
+      ≡ Some (answer chunk_len (state_of (standing chunk_len (cut_of numbers which text old k) buffer before) buffer) c)
   pub leaves_answers :
-      (answers : List ℕ) (i : ℕ) → length calls ≤ i → get_elem? (answers_behind numbers which text old k buffer calls answers) i ≡ get_elem? answers i
+      (answers : List Answer) (i : ℕ) → length calls ≤ i → slice_get (answers_behind numbers which text old k buffer calls answers) i ≡ slice_get answers i
   pub claim : CutReadsBack chunk_len old (plan_for numbers which text old) text k (cut_of numbers which text old k) buffer calls
 
 abbrev pub EveryRunReadsBack : Type 0
 EveryRunReadsBack =
-    (numbers : LuminaireNumbers) (which : OptionUsize) (text old : List ℕ) (k : ℕ) (buffer : List ℕ) (calls : List Call) →
+    (numbers : LuminaireNumbers) (which : Option ℕ) (text old : List ℕ) (k : ℕ) (buffer : List ℕ) (calls : List Call) →
     OldBank old → Accepted old (plan_for numbers which text old) text →
     HoldsChunks chunk_len (cut_of numbers which text old k) (begin (cut_of numbers which text old k) buffer) calls →
     RunReadsBack numbers which text old k buffer calls
 
 -- "Each returns its number alone, with read-out and lent slices as before": a run that is refused leaves all that it was lent.
-pub record RunLeavesAll (numbers : LuminaireNumbers) (which : OptionUsize) (text old : List ℕ) (k : ℕ) (buffer : List ℕ) (calls : List Call) (answers : List ℕ) : Type 0 where
+pub record RunLeavesAll (numbers : LuminaireNumbers) (which : Option ℕ) (text old : List ℕ) (k : ℕ) (buffer : List ℕ) (calls : List Call) (answers : List Answer) : Type 0 where
   pub bank : bank_behind numbers which text old k ≡ old
   pub buffer_stays : buffer_behind numbers which text old k buffer calls ≡ buffer
   pub answers_stay : answers_behind numbers which text old k buffer calls answers ≡ answers
 
 abbrev pub EveryRefusedRunLeavesAll : Type 0
 EveryRefusedRunLeavesAll =
-    (numbers : LuminaireNumbers) (which : OptionUsize) (text old : List ℕ) (k : ℕ) (buffer : List ℕ) (calls : List Call) (answers : List ℕ) (r : Refusal) →
-    read_back numbers which text old k buffer calls ≡ ResultReadOut.Err r → RunLeavesAll numbers which text old k buffer calls answers
+    (numbers : LuminaireNumbers) (which : Option ℕ) (text old : List ℕ) (k : ℕ) (buffer : List ℕ) (calls : List Call) (answers : List Answer) (r : Refusal) →
+    read_back numbers which text old k buffer calls ≡ Err r → RunLeavesAll numbers which text old k buffer calls answers

@@ -1,15 +1,11 @@
 -- 01, "The records": "`IdentityRead::of_bank0`".
 -- Assumes nothing.
-use Rattle.std.specs.Prelude.{◌≡◌, cond, List, [], ◌∷◌, ℕ, ◌+◌, ◌-◌, ◌≤◌, eqb, ltb, length, get_or}
-use Rattle.std.proofs.Math.Option.{Option, none, some, map, bind}
-use Rattle.bus.specs.Options.{option_u8, option_u64}
+use Rattle.std.specs.Prelude.{◌≡◌, cond, List, [], ◌∷◌, ℕ, ◌+◌, ◌-◌, ◌≤◌, eqb, ltb, length, get_or, Err, None, Ok, Option, Result, Some, option_and_then, option_map}
 use Rattle.bus.specs.Value.{bytes_at}
 use Rattle.records.specs.declared.identity.DeviceIdentity.{DeviceIdentity}
 use Rattle.records.specs.declared.identity.IdentityRead.{IdentityRead}
 use Rattle.records.specs.declared.identity.IdentityRead.TheVariants.{Unread, Known}
 use Rattle.records.specs.declared.identity.IdentityCause.{IdentityCause}
-use Rattle.records.specs.declared.identity.ResultDeviceIdentity.{ResultDeviceIdentity}
-use Rattle.records.specs.declared.identity.ResultDeviceIdentity.TheVariants.{Ok, Err}
 use Rattle.records.specs.declared.memory_bank_parser.ParsedMemoryIdentity.{ParsedMemoryIdentity}
 use Rattle.records.specs.Places.{number_at}
 use Rattle.records.specs.Records.{bank0_identity}
@@ -19,11 +15,11 @@ identity gtin number index = record { gtin = gtin; identification_number = numbe
 
 -- an identity is known where none of its parts is absent
 abbrev pub identity_of : Option ℕ → Option ℕ → Option ℕ → Option DeviceIdentity
-identity_of gtin number index = bind gtin (λ g. bind number (λ n. map (λ i. identity g n i) index))
+identity_of gtin number index = option_and_then (λ g. option_and_then (λ n. option_map (λ i. identity g n i) index) number) gtin
 
 abbrev pub known_if : Option DeviceIdentity → IdentityRead
-known_if none = IdentityRead.Unprovable
-known_if (some d) = Known d
+known_if None = IdentityRead.Unprovable
+known_if (Some d) = Known d
 
 -- "bytes 03 to 1A hex"
 abbrev window_len : ℕ
@@ -36,8 +32,8 @@ of_window window =
     (known_if (identity_of (number_at 0x03 window 0x03 6) (number_at 0x03 window 0x0B 8) (number_at 0x03 window 0x1A 1))) Unread
 
 abbrev pub of_part : Option (List ℕ) → IdentityRead
-of_part none = Unread
-of_part (some window) = of_window window
+of_part None = Unread
+of_part (Some window) = of_window window
 
 -- "empty, unread; first byte below 1A hex, unprovable; .."
 abbrev pub of_bank0 : List ℕ → IdentityRead
@@ -45,23 +41,23 @@ of_bank0 [] = Unread
 of_bank0 (last ∷ bytes) = cond (ltb last 0x1A) IdentityRead.Unprovable (of_part (bytes_at 0x03 window_len (last ∷ bytes)))
 
 -- the identity that is known, or why none is
-abbrev pub known_of : IdentityRead → ResultDeviceIdentity
+abbrev pub known_of : IdentityRead → Result DeviceIdentity IdentityCause
 known_of Unread = Err IdentityCause.Unknown
 known_of IdentityRead.Unprovable = Err IdentityCause.Unprovable
 known_of (Known d) = Ok d
 
 -- A known identity is the one in the record of bank 0.
 pub record AsRecorded (d : DeviceIdentity) (r : ParsedMemoryIdentity) : Type 0 where
-  pub gtin : r.gtin ≡ option_u64 (some d.gtin)
-  pub number : r.identification_number ≡ option_u64 (some d.identification_number)
-  pub index : r.logical_control_gear_index ≡ option_u8 (some d.logical_gear_index)
+  pub gtin : r.gtin ≡ (Some d.gtin)
+  pub number : r.identification_number ≡ (Some d.identification_number)
+  pub index : r.logical_control_gear_index ≡ (Some d.logical_gear_index)
 
 -- And one whose parts are all there is known.
 pub record KnownExactly (bank : List ℕ) : Type 0 where
   pub as_recorded : {d : DeviceIdentity} → of_bank0 bank ≡ Known d → AsRecorded d (bank0_identity 0 bank)
   pub known :
-      {g n i : ℕ} → 0x1A ≤ get_or bank 0 0 → number_at 0 bank 0x03 6 ≡ some g → number_at 0 bank 0x0B 8 ≡ some n →
-      number_at 0 bank 0x1A 1 ≡ some i → of_bank0 bank ≡ Known (identity g n i)
+      {g n i : ℕ} → 0x1A ≤ get_or bank 0 0 → number_at 0 bank 0x03 6 ≡ Some g → number_at 0 bank 0x0B 8 ≡ Some n →
+      number_at 0 bank 0x1A 1 ≡ Some i → of_bank0 bank ≡ Known (identity g n i)
 
 abbrev pub EveryIdentityKnownExactly : Type 0
 EveryIdentityKnownExactly = (bank : List ℕ) → KnownExactly bank

@@ -1,30 +1,26 @@
 -- 01, "The records": what a place of a bank says, from given bytes of which the first stands at a start offset.
 -- Assumes nothing.
-use Rattle.std.specs.Prelude.{◌≡◌, Bool, true, false, cond, ◌&&◌, List, [], ◌∷◌, ℕ, ◌+◌, ◌-◌, ◌≤◌, eqb, leb, ℤ, pos, neg_ℤ, take, drop}
-use Rattle.std.proofs.Math.Option.{Option, none, some, map}
+use Rattle.std.specs.Prelude.{◌≡◌, Bool, true, false, cond, ◌&&◌, List, [], ◌∷◌, ℕ, ◌+◌, ◌-◌, ◌≤◌, eqb, leb, ℤ, pos, neg_ℤ, take, drop, None, Option, Some, option_map}
 use Rattle.std.specs.Int.Signed.{le_z}
-use Rattle.bus.specs.declared.OptionU64.{OptionU64}
 use Rattle.bus.specs.declared.ValueWidth.{ValueWidth}
 use Rattle.bus.specs.declared.BankValue.{BankValue}
-use Rattle.bus.specs.Options.{option_u64, u64_in}
 use Rattle.bus.specs.Number.{number}
 use Rattle.bus.specs.Width.{bytes_of, signed_meaning}
 use Rattle.bus.specs.Value.{classified, value_of, is_not_implemented, unavailable, saturated, bytes_at, NoMask}
 use Rattle.records.specs.declared.attributes.BankReading.{BankReading}
-use Rattle.records.specs.declared.attributes.OptionBankReading.{OptionBankReading}
 
 -- "The parsers of 000 take bytes and a start offset; a field not wholly present is absent": the bytes of a field, so many
 -- from an offset of its bank on
 abbrev pub field_at : ℕ → List ℕ → ℕ → ℕ → Option (List ℕ)
-field_at start bytes o n = cond (leb start o) (bytes_at (o - start) n bytes) none
+field_at start bytes o n = cond (leb start o) (bytes_at (o - start) n bytes) None
 
 abbrev pub is_there : {A : Type 0} → Option A → Bool
-is_there none = false
-is_there (some x) = true
+is_there None = false
+is_there (Some x) = true
 
 -- "Single identity bytes are raw, FF hex included."
 abbrev pub byte_at : ℕ → List ℕ → ℕ → Option ℕ
-byte_at start bytes o = map number (field_at start bytes o 1)
+byte_at start bytes o = option_map number (field_at start bytes o 1)
 
 unfoldable pub all_ff : List ℕ → Bool
 all_ff [] = true
@@ -32,8 +28,8 @@ all_ff (b ∷ bs) = eqb b 0xFF && all_ff bs
 
 -- "GTIN and identification numbers of all FF hex are absent."
 abbrev pub unless_ff : Option (List ℕ) → Option ℕ
-unless_ff none = none
-unless_ff (some bs) = cond (all_ff bs) none (some (number bs))
+unless_ff None = None
+unless_ff (Some bs) = cond (all_ff bs) None (Some (number bs))
 
 abbrev pub number_at : ℕ → List ℕ → ℕ → ℕ → Option ℕ
 number_at start bytes o n = unless_ff (field_at start bytes o n)
@@ -42,7 +38,7 @@ number_at start bytes o n = unless_ff (field_at start bytes o n)
 abbrev pub reading_of : ValueWidth → BankValue → BankReading
 reading_of w v =
     record {
-      value = option_u64 (value_of v);
+      value = value_of v;
       not_implemented = is_not_implemented v;
       temporarily_unavailable = unavailable v;
       saturated = saturated w v;
@@ -50,23 +46,23 @@ reading_of w v =
 
 -- the reading at an offset and a width
 abbrev pub reading_at : ℕ → List ℕ → ℕ → ValueWidth → Option BankReading
-reading_at start bytes o w = map (λ bs. reading_of w (classified w (number bs))) (field_at start bytes o (bytes_of w))
+reading_at start bytes o w = option_map (λ bs. reading_of w (classified w (number bs))) (field_at start bytes o (bytes_of w))
 
 -- the value of a reading that is there and has one
-abbrev pub value_read : OptionBankReading → Option ℕ
-value_read (OptionBankReading.Some r) = u64_in r.value
-value_read OptionBankReading.None = none
+abbrev pub value_read : Option BankReading → Option ℕ
+value_read (Some r) = r.value
+value_read None = None
 
 -- "A scale is the signed meaning of its byte, present only from −6 to 6."
 abbrev pub is_scale : ℤ → Bool
 is_scale z = le_z (neg_ℤ (pos 6)) z && le_z z (pos 6)
 
 abbrev pub scale_of : ℕ → Option ℤ
-scale_of b = cond (is_scale (signed_meaning 8 b)) (some (signed_meaning 8 b)) none
+scale_of b = cond (is_scale (signed_meaning 8 b)) (Some (signed_meaning 8 b)) None
 
 abbrev pub scale_in : Option ℕ → Option ℤ
-scale_in none = none
-scale_in (some b) = scale_of b
+scale_in None = None
+scale_in (Some b) = scale_of b
 
 abbrev pub scale_at : ℕ → List ℕ → ℕ → Option ℤ
 scale_at start bytes o = scale_in (byte_at start bytes o)
@@ -74,10 +70,10 @@ scale_at start bytes o = scale_in (byte_at start bytes o)
 -- A part of a bank, from the start offset on, has the bank's fields: one that is present in it is that of the bank, and
 -- one of the bank that lies in it is present. (A field has a byte.)
 pub record PartOf (bank : List ℕ) (start m o n : ℕ) : Type 0 where
-  pub of_bank : {bs : List ℕ} → field_at start (take m (drop start bank)) o n ≡ some bs → field_at 0 bank o n ≡ some bs
+  pub of_bank : {bs : List ℕ} → field_at start (take m (drop start bank)) o n ≡ Some bs → field_at 0 bank o n ≡ Some bs
   pub present :
-      {bs : List ℕ} → start ≤ o → o + n ≤ start + m → field_at 0 bank o n ≡ some bs →
-      field_at start (take m (drop start bank)) o n ≡ some bs
+      {bs : List ℕ} → start ≤ o → o + n ≤ start + m → field_at 0 bank o n ≡ Some bs →
+      field_at start (take m (drop start bank)) o n ≡ Some bs
 
 abbrev pub PartReadsAsBank : Type 0
 PartReadsAsBank = (bank : List ℕ) (start m o n : ℕ) → 1 ≤ n → PartOf bank start m o n
@@ -86,5 +82,5 @@ PartReadsAsBank = (bank : List ℕ) (start m o n : ℕ) → 1 ≤ n → PartOf b
 abbrev pub NoReadingShowsMask : Type 0
 NoReadingShowsMask =
     (start : ℕ) (bytes : List ℕ) (o : ℕ) (w : ValueWidth) (bs : List ℕ) (r : BankReading) (v : ℕ) →
-    field_at start bytes o (bytes_of w) ≡ some bs → reading_at start bytes o w ≡ some r → r.value ≡ OptionU64.Some v →
+    field_at start bytes o (bytes_of w) ≡ Some bs → reading_at start bytes o w ≡ Some r → r.value ≡ Some v →
     NoMask w (number bs) v

@@ -1,18 +1,13 @@
 -- 01, "The records": each record is a list of places, by the tables of IEC 62386-102 and of DiiA 252 and 253.
 -- Assumes nothing.
-use Rattle.std.specs.Prelude.{◌≡◌, cond, List, [], ◌∷◌, ◌++◌, map, ℕ, ◌+◌, drop}
-use Rattle.bus.specs.declared.OptionU8.{OptionU8}
-use Rattle.bus.specs.declared.OptionU64.{OptionU64}
+use Rattle.std.specs.Prelude.{◌≡◌, cond, List, [], ◌∷◌, ◌++◌, map, ℕ, ◌+◌, drop, Option, ℤ}
 use Rattle.bus.specs.declared.ValueWidth.{ValueWidth}
 use Rattle.bus.specs.declared.ValueWidth.TheVariants.{U8, U16, U24, U32, U48}
 use Rattle.bus.specs.declared.layout.BankField.{BankField}
 use Rattle.bus.specs.declared.layout.BankMap.{BankMap}
 use Rattle.bus.specs.declared.layout.BankMap.TheVariants.{Energy, GearDiagnostics, SourceDiagnostics, Maintenance}
-use Rattle.bus.specs.Options.{option_u8, option_u64}
 use Rattle.bus.specs.Width.{signed}
 use Rattle.bus.specs.Maps.{fields}
-use Rattle.records.specs.declared.OptionI8.{OptionI8}
-use Rattle.records.specs.declared.attributes.OptionBankReading.{OptionBankReading}
 use Rattle.records.specs.declared.memory_bank_parser.ParsedMemoryIdentity.{ParsedMemoryIdentity}
 use Rattle.records.specs.declared.memory_bank_parser.ParsedMemoryProfile.{ParsedMemoryProfile}
 use Rattle.records.specs.declared.memory_bank_parser.ParsedBusUnit.{ParsedBusUnit}
@@ -21,22 +16,22 @@ use Rattle.records.specs.declared.memory_bank_parser.ParsedCondition.{ParsedCond
 use Rattle.records.specs.declared.memory_bank_parser.ParsedGearDiagnostics.{ParsedGearDiagnostics}
 use Rattle.records.specs.declared.memory_bank_parser.ParsedSourceDiagnostics.{ParsedSourceDiagnostics}
 use Rattle.records.specs.declared.memory_bank_parser.ParsedLuminaireMaintenance.{ParsedLuminaireMaintenance}
-use Rattle.records.specs.Options.{option_i8, option_bank_reading}
 use Rattle.records.specs.Places.{byte_at, number_at, reading_at, scale_at}
+use Rattle.records.specs.declared.attributes.BankReading.{BankReading}
 
 -- the four kinds of place, of given bytes and their start offset
 module _ (start : ℕ) (bytes : List ℕ) where
-  abbrev byte : ℕ → OptionU8
-  byte o = option_u8 (byte_at start bytes o)
+  abbrev byte : ℕ → Option ℕ
+  byte o = (byte_at start bytes o)
 
-  abbrev number : ℕ → ℕ → OptionU64
-  number o n = option_u64 (number_at start bytes o n)
+  abbrev number : ℕ → ℕ → Option ℕ
+  number o n = (number_at start bytes o n)
 
-  abbrev reading : ℕ → ValueWidth → OptionBankReading
-  reading o w = option_bank_reading (reading_at start bytes o w)
+  abbrev reading : ℕ → ValueWidth → Option BankReading
+  reading o w = (reading_at start bytes o w)
 
-  abbrev scale : ℕ → OptionI8
-  scale o = option_i8 (scale_at start bytes o)
+  abbrev scale : ℕ → Option ℤ
+  scale o = (scale_at start bytes o)
 
   -- bank 0 (IEC 62386-102 §9.10.6, table 9)
   abbrev pub bank0_identity : ParsedMemoryIdentity
@@ -131,9 +126,9 @@ module _ (start : ℕ) (bytes : List ℕ) where
 
 -- what a member of a record says: a raw byte, a scale or a reading
 pub data Said : Type 0 where
-  a_byte : OptionU8 → Said
-  a_scale : OptionI8 → Said
-  a_reading : OptionBankReading → Said
+  a_byte : Option ℕ → Said
+  a_scale : Option ℤ → Said
+  a_reading : Option BankReading → Said
 
 -- the members of each record, in their order
 abbrev of_energy_bank : ParsedEnergyBank → List Said
@@ -172,12 +167,12 @@ module _ (start : ℕ) (bytes : List ℕ) where
   -- what a field of a map says: a signed one is a scale
   abbrev said_by : BankField → Said
   said_by f =
-      cond (signed f.width) (a_scale (option_i8 (scale_at start bytes f.offset)))
-      (a_reading (option_bank_reading (reading_at start bytes f.offset f.width)))
+      cond (signed f.width) (a_scale (scale_at start bytes f.offset))
+      (a_reading (reading_at start bytes f.offset f.width))
 
   -- behind the head of a bank comes its version, a raw byte, and then what its map has
   abbrev by_map : BankMap → List Said
-  by_map m = a_byte (option_u8 (byte_at start bytes 0x03)) ∷ map said_by (drop 4 (fields m))
+  by_map m = a_byte (byte_at start bytes 0x03) ∷ map said_by (drop 4 (fields m))
 
 -- Each record of banks 202 to 207 is, member by member, what the fields of its bank's map say.
 pub record FollowsMap (start : ℕ) (bytes : List ℕ) : Type 0 where

@@ -1,12 +1,9 @@
 -- 01, "The records", the paragraph "Text ends at the first 00."
 -- Assumes nothing.
-use Rattle.std.specs.Prelude.{◌≡◌, Bool, true, false, cond, List, [], ◌∷◌, ◌++◌, ℕ, zero, suc, ◌+◌, ◌-◌, ◌/◌, ◌%◌, ◌≤◌, eqb, leb, ltb, length, take, replicate}
-use Rattle.std.proofs.Math.Option.{Option, none, some}
+use Rattle.std.specs.Prelude.{◌≡◌, Bool, true, cond, List, [], ◌∷◌, ◌++◌, ℕ, zero, suc, ◌+◌, ◌-◌, ◌/◌, ◌%◌, ◌≤◌, eqb, leb, ltb, length, take, replicate, None, Option, Some, option_map, unwrap_or}
 use Rattle.bus.specs.declared.part251.TextRegion.{TextRegion}
 use Rattle.bus.specs.Value.{bytes_at, laid_into}
 use Rattle.bank.specs.Fields.{printable}
-use Rattle.records.specs.declared.fixed_text.TextLimit.{TextLimit}
-use Rattle.records.specs.declared.fixed_text.TextLimit.TheVariants.{Bytes32, Bytes64}
 use Rattle.records.specs.declared.fixed_text.FixedText.{FixedText}
 use Rattle.records.specs.Places.{field_at, is_there}
 use Rattle.records.specs.Utf8.{sequence_len}
@@ -31,12 +28,16 @@ escape b = 0x5C ∷ 0x78 ∷ hex_digits b
 -- piece that stands for the bytes at the start of a text
 abbrev pub piece : List ℕ → List ℕ
 piece [] = []
-piece (b ∷ bs) = cond (eqb (sequence_len (b ∷ bs)) 0) (escape b) (take (sequence_len (b ∷ bs)) (b ∷ bs))
+piece (b ∷ bs) = unwrap_or (option_map (λ n. take n (b ∷ bs)) (sequence_len (b ∷ bs))) (escape b)
+
+-- how many bytes a piece stands for: those of the sequence, or one
+abbrev pub taken_len : List ℕ → ℕ
+taken_len bytes = unwrap_or (sequence_len bytes) 1
 
 -- the pieces of a text, behind so many bytes that belong to the piece before
 unfoldable pub pieces_behind : ℕ → List ℕ → List (List ℕ)
 pieces_behind skip [] = []
-pieces_behind zero (b ∷ bs) = piece (b ∷ bs) ∷ pieces_behind (sequence_len (b ∷ bs) - 1) bs
+pieces_behind zero (b ∷ bs) = piece (b ∷ bs) ∷ pieces_behind (taken_len (b ∷ bs) - 1) bs
 pieces_behind (suc skip) (b ∷ bs) = pieces_behind skip bs
 
 abbrev pub pieces : List ℕ → List (List ℕ)
@@ -51,29 +52,21 @@ fitting room (p ∷ ps) = cond (leb (length p) room) (p ++ fitting (room - lengt
 abbrev pub escaped : ℕ → List ℕ → List ℕ
 escaped limit bytes = fitting limit (pieces bytes)
 
--- "64 bytes (identification) or 32 (others)"
-abbrev pub limit_of : TextLimit → ℕ
-limit_of Bytes32 = 32
-limit_of Bytes64 = 64
+-- `FixedText<N>`: as many bytes as the limit says, which begin with the text; the others are 0
+abbrev pub fixed : (limit : ℕ) → List ℕ → FixedText limit
+fixed limit text = record { len = length text; bytes = laid_into text (replicate limit 0) }
 
-abbrev pub zeros : List ℕ
-zeros = replicate 64 0
-
--- "`FixedText<N>` becomes a 64-byte array with a length and its limit"
-abbrev pub as_text : TextLimit → List ℕ → FixedText
-as_text limit text = record { present = true; limit = limit; len = length text; bytes = laid_into text zeros }
+-- a text that is there
+abbrev pub as_text : (limit : ℕ) → List ℕ → Option (FixedText limit)
+as_text limit text = Some (fixed limit text)
 
 -- a text as it is shown within its limit
-abbrev pub shown_text : TextLimit → List ℕ → FixedText
-shown_text limit bytes = as_text limit (escaped (limit_of limit) bytes)
-
--- "an absent text is a yes or no beside its array"
-abbrev pub absent_text : TextLimit → FixedText
-absent_text limit = record { present = false; limit = limit; len = 0; bytes = zeros }
+abbrev pub shown_text : (limit : ℕ) → List ℕ → FixedText limit
+shown_text limit bytes = fixed limit (escaped limit bytes)
 
 abbrev before_zero : Option (List ℕ) → List ℕ
-before_zero none = []
-before_zero (some region) = until_zero region
+before_zero None = []
+before_zero (Some region) = until_zero region
 
 -- "`text_bytes` hands back the part of the caller's bank before the 00; for a region not wholly present the part is empty"
 abbrev pub text_bytes : List ℕ → TextRegion → List ℕ
@@ -84,12 +77,11 @@ abbrev pub text_present : List ℕ → TextRegion → Bool
 text_present bank t = is_there (bytes_at t.offset t.len bank)
 
 -- what is shown of a region that may be lacking
-abbrev pub text_in : TextLimit → Option (List ℕ) → FixedText
-text_in limit none = absent_text limit
-text_in limit (some region) = shown_text limit (until_zero region)
+abbrev pub text_in : (limit : ℕ) → Option (List ℕ) → Option (FixedText limit)
+text_in limit region = option_map (λ bs. shown_text limit (until_zero bs)) region
 
 -- a text field as it is shown, from given bytes and their start offset
-abbrev pub text_region : ℕ → List ℕ → TextRegion → TextLimit → FixedText
+abbrev pub text_region : ℕ → List ℕ → TextRegion → (limit : ℕ) → Option (FixedText limit)
 text_region start bytes t limit = text_in limit (field_at start bytes t.offset t.len)
 
 -- A text is never longer than its limit.
@@ -99,10 +91,10 @@ WithinLimit = (limit : ℕ) (bytes : List ℕ) → length (escaped limit bytes) 
 -- A text of bytes 20 to 7E hex within the limit reads as itself, with a 00 behind it or with nothing.
 abbrev pub PrintableReadsAsItself : Type 0
 PrintableReadsAsItself =
-    (limit : TextLimit) (text behind : List ℕ) →
-    printable text ≡ true → length text ≤ limit_of limit → until_zero behind ≡ [] →
-    text_in limit (some (text ++ behind)) ≡ as_text limit text
+    (limit : ℕ) (text behind : List ℕ) →
+    printable text ≡ true → length text ≤ limit → until_zero behind ≡ [] →
+    text_in limit (Some (text ++ behind)) ≡ as_text limit text
 
 -- A text whose first byte is 00 reads empty.
 abbrev pub ZeroReadsEmpty : Type 0
-ZeroReadsEmpty = (limit : TextLimit) (behind : List ℕ) → text_in limit (some (0 ∷ behind)) ≡ as_text limit []
+ZeroReadsEmpty = (limit : ℕ) (behind : List ℕ) → text_in limit (Some (0 ∷ behind)) ≡ as_text limit []

@@ -1,7 +1,6 @@
 -- Unicode, table 3-7, "Well-Formed UTF-8 Byte Sequences", to which 01, "The records", refers.
 -- Assumes nothing.
-use Rattle.std.specs.Prelude.{Bool, true, false, ◌&&◌, List, [], ◌∷◌, ℕ, suc, leb, length}
-use Rattle.std.proofs.Math.Option.{Option, none, some}
+use Rattle.std.specs.Prelude.{Bool, true, false, ◌&&◌, List, [], ◌∷◌, ℕ, suc, leb, length, Option, option_map}
 use Rattle.bus.specs.Maps.{first_with}
 
 -- the bytes from one to another
@@ -48,10 +47,10 @@ follow (r ∷ rs) (b ∷ bs) = within r b && follow rs bs
 abbrev pub begins : List ℕ → Row → Bool
 begins bytes r = follow (r.first ∷ r.further) bytes
 
-abbrev pub row_len : Option Row → ℕ
-row_len none = 0
-row_len (some r) = suc (length r.further)
+-- the length of a row's sequences: the first byte, and those behind it
+abbrev pub row_len : Row → ℕ
+row_len r = suc (length r.further)
 
--- the length of the well-formed sequence that bytes begin with, 0 where there is none
-unfoldable pub sequence_len : List ℕ → ℕ
-sequence_len bytes = row_len (first_with (begins bytes) table3_7)
+-- the length of the well-formed sequence that bytes begin with, if there is one
+unfoldable pub sequence_len : List ℕ → Option ℕ
+sequence_len bytes = option_map row_len (first_with (begins bytes) table3_7)

@@ -1,24 +1,20 @@
 -- 01, "The plan, where a write enters": the planned writes, their stages and their stores.
 -- Assumes nothing.
-use Rattle.std.specs.Prelude.{◌≡◌, Bool, true, false, cond, ◌&&◌, List, [], ◌∷◌, ◌++◌, map, ℕ, suc, ◌+◌, ◌*◌, ◌/◌, ◌%◌, ◌^◌, ◌≤◌, ◌<◌, eqb, leb, length, take, drop}
-use Rattle.std.proofs.Math.Option
-use Rattle.std.proofs.Math.Option.{Option, none, some}
+use Rattle.std.specs.Prelude.{◌≡◌, Bool, true, false, cond, ◌&&◌, List, [], ◌∷◌, ◌++◌, map, ℕ, suc, ◌+◌, ◌*◌, ◌/◌, ◌%◌, ◌^◌, ◌≤◌, ◌<◌, eqb, leb, length, take, drop, None, Option, Some, option_map, slice_get}
+use Rattle.std.specs.Str.{bytes_eq}
 use Rattle.std.specs.Int.Count.{ones, count_trailing_zeros}
-use Rattle.std.proofs.Math.ListN.{get_elem?}
 use Rattle.bus.specs.Number.{number, low_bytes}
 use Rattle.bus.specs.Value.{bytes_at}
-use Rattle.bank.specs.declared.OptionUsize.{OptionUsize}
 use Rattle.bank.specs.declared.luminaire_write.FieldKind.{FieldKind}
 use Rattle.bank.specs.declared.luminaire_write.FieldKind.TheVariants.{LayoutId, Number, Text}
 use Rattle.bank.specs.declared.luminaire_write.LuminaireField.{LuminaireField}
 use Rattle.bank.specs.Fields.{luminaire_fields, field_end, is_text_kind}
 use Rattle.records.specs.declared.luminaire_write.LuminaireNumbers.{LuminaireNumbers}
 use Rattle.records.specs.declared.luminaire_write.FieldWrite.{FieldWrite}
-use Rattle.records.specs.declared.luminaire_write.OptionFieldWrite.{OptionFieldWrite}
-use Rattle.records.specs.declared.luminaire_write.OptionWriteStage.{OptionWriteStage}
 use Rattle.records.specs.declared.luminaire_write.StagePart.{StagePart}
 use Rattle.records.specs.declared.luminaire_write.StagePart.TheVariants.{Terminator, Whole, Tail, Head}
 use Rattle.records.specs.declared.luminaire_write.WriteStage.{WriteStage}
+use Rattle.records.specs.declared.luminaire_write.Store as store
 
 -- "Mask bits 0 to 10 are the numbers in the order of `number_values` (001)"
 abbrev pub number_values : LuminaireNumbers → List ℕ
@@ -45,44 +41,32 @@ is_set mask bit = eqb (mask / 2 ^ bit % 2) 1
 
 -- the number of a mask bit, where the mask has it
 unfoldable pub number_for : LuminaireNumbers → ℕ → Option ℕ
-number_for n patch = cond (is_set n.patch_mask (bit_place patch)) (get_elem? (number_values n) (bit_place patch)) none
+number_for n patch = cond (is_set n.patch_mask (bit_place patch)) (slice_get (number_values n) (bit_place patch)) None
 
 -- the number that is wanted of a field
 abbrev pub wanted_number : LuminaireNumbers → FieldKind → Option ℕ
-wanted_number n LayoutId = none
+wanted_number n LayoutId = None
 wanted_number n (Number patch r) = number_for n patch
-wanted_number n (Text t) = none
+wanted_number n (Text t) = None
 
 -- "at most one text with its field index": whether it is that of the field at a place
-abbrev pub is_for : OptionUsize → ℕ → Bool
-is_for (OptionUsize.Some i) place = eqb i place
-is_for OptionUsize.None place = false
+abbrev pub is_for : Option ℕ → ℕ → Bool
+is_for (Some i) place = eqb i place
+is_for None place = false
 
 -- "it keeps the low bytes"
 abbrev pub number_bytes : LuminaireNumbers → LuminaireField → Option (List ℕ)
-number_bytes n f = Option.map (low_bytes f.len) (wanted_number n f.kind)
+number_bytes n f = option_map (low_bytes f.len) (wanted_number n f.kind)
 
 -- "A text shorter than its field gets one 00 behind it; a text that fills it gets none." A longer one is cut.
 abbrev pub terminated : LuminaireField → List ℕ → List ℕ
 terminated f text = take f.len (text ++ 0 ∷ [])
 
 -- the bytes that are to be written to a field
-abbrev pub bytes_for : FieldKind → LuminaireNumbers → OptionUsize → List ℕ → ℕ → LuminaireField → Option (List ℕ)
-bytes_for LayoutId n which text place f = none
+abbrev pub bytes_for : FieldKind → LuminaireNumbers → Option ℕ → List ℕ → ℕ → LuminaireField → Option (List ℕ)
+bytes_for LayoutId n which text place f = None
 bytes_for (Number patch r) n which text place f = number_bytes n f
-bytes_for (Text t) n which text place f = cond (is_for which place) (some (terminated f text)) none
-
-abbrev pub bytes_in : Option (List ℕ) → List ℕ
-bytes_in none = []
-bytes_in (some bytes) = bytes
-
--- a write's bytes in a lent slice, of which it counts the first
-abbrev pub counted : ℕ → List ℕ → FieldWrite
-counted place bytes = record { field = place; len = length bytes }
-
-abbrev pub option_field_write : ℕ → Option (List ℕ) → OptionFieldWrite
-option_field_write place (some bytes) = OptionFieldWrite.Some (counted place bytes)
-option_field_write place none = OptionFieldWrite.None
+bytes_for (Text t) n which text place f = cond (is_for which place) (Some (terminated f text)) None
 
 -- a write: its field, by its index too, and its bytes
 pub record Write : Type 0 where
@@ -94,8 +78,8 @@ abbrev pub written : ℕ → LuminaireField → List ℕ → Write
 written place f bytes = record { index = place; field = f; bytes = bytes }
 
 abbrev pub write_of : ℕ → LuminaireField → Option (List ℕ) → List Write
-write_of place f none = []
-write_of place f (some bytes) = written place f bytes ∷ []
+write_of place f None = []
+write_of place f (Some bytes) = written place f bytes ∷ []
 
 -- what the fields give, one after the other, each told its place
 abbrev pub gather : {A : Type 0} → (ℕ → LuminaireField → List A) → List LuminaireField → List A
@@ -106,7 +90,7 @@ abbrev pub flat : {A B : Type 0} → (A → List B) → List A → List B
 flat g [] = []
 flat g (x ∷ xs) = g x ++ flat g xs
 
-module _ (n : LuminaireNumbers) (which : OptionUsize) (text : List ℕ) where
+module _ (n : LuminaireNumbers) (which : Option ℕ) (text : List ℕ) where
   abbrev pub writes_at : ℕ → LuminaireField → List Write
   writes_at place f = write_of place f (bytes_for f.kind n which text place f)
 
@@ -114,38 +98,37 @@ module _ (n : LuminaireNumbers) (which : OptionUsize) (text : List ℕ) where
   unfoldable pub planned_writes : List Write
   planned_writes = gather writes_at luminaire_fields
 
--- the members of the writes in slices of their own, the bytes one behind the other
-abbrev pub indices : List Write → List ℕ
-indices ws = map (λ (w : Write). w.index) ws
+-- a write as it is answered: its field's index, and how many bytes it has
+abbrev pub field_write : Write → FieldWrite
+field_write w = record { field = w.index; len = length w.bytes }
 
-abbrev pub lengths : List Write → List ℕ
-lengths ws = map (λ (w : Write). length w.bytes) ws
+abbrev pub field_writes : List Write → List FieldWrite
+field_writes ws = map field_write ws
 
+-- the bytes of the writes, one behind the other
 abbrev pub all_bytes : List Write → List ℕ
 all_bytes ws = flat (λ (w : Write). w.bytes) ws
 
 -- a write's end, where there is such a field
 abbrev pub end_of : FieldWrite → Option ℕ
-end_of w = Option.map (λ f. f.offset + w.len) (get_elem? luminaire_fields w.field)
+end_of w = option_map (λ f. f.offset + w.len) (slice_get luminaire_fields w.field)
 
+-- whether bytes are the same
 abbrev pub same : List ℕ → List ℕ → Bool
-same [] [] = true
-same [] (y ∷ ys) = false
-same (x ∷ xs) [] = false
-same (x ∷ xs) (y ∷ ys) = eqb x y && same xs ys
+same = bytes_eq
 
 abbrev same_of : Option (List ℕ) → Option (List ℕ) → Bool
-same_of none ys = false
-same_of (some xs) none = false
-same_of (some xs) (some ys) = same xs ys
+same_of None ys = false
+same_of (Some xs) None = false
+same_of (Some xs) (Some ys) = same xs ys
 
 abbrev holds_at : Option LuminaireField → ℕ → List ℕ → List ℕ → Bool
-holds_at none n bytes bank = false
-holds_at (some f) n bytes bank = same_of (bytes_at f.offset n bank) (bytes_at 0 n bytes)
+holds_at None n bytes bank = false
+holds_at (Some f) n bytes bank = same_of (bytes_at f.offset n bank) (bytes_at 0 n bytes)
 
 -- a bank holds a write that is wholly present where it has the write's bytes at the field's offset
 unfoldable pub held_by : FieldWrite → List ℕ → List ℕ → Bool
-held_by w bytes bank = holds_at (get_elem? luminaire_fields w.field) w.len bytes bank
+held_by w bytes bank = holds_at (slice_get luminaire_fields w.field) w.len bytes bank
 
 abbrev stage : ℕ → ℕ → StagePart → WriteStage
 stage place offset part = record { field = place; offset = offset; part = part }
@@ -162,16 +145,12 @@ stages_of place f n =
     (stage place f.offset Terminator ∷ stage place (f.offset + 1) Tail ∷ stage place f.offset Head ∷ [])
     (stage place f.offset Whole ∷ [])
 
-abbrev pub option_write_stage : Option WriteStage → OptionWriteStage
-option_write_stage (some s) = OptionWriteStage.Some s
-option_write_stage none = OptionWriteStage.None
-
 abbrev stages_in : Option LuminaireField → FieldWrite → List WriteStage
-stages_in none w = []
-stages_in (some f) w = stages_of w.field f w.len
+stages_in None w = []
+stages_in (Some f) w = stages_of w.field f w.len
 
 abbrev pub stages_at : FieldWrite → List WriteStage
-stages_at w = stages_in (get_elem? luminaire_fields w.field) w
+stages_at w = stages_in (slice_get luminaire_fields w.field) w
 
 -- which bytes a stage stores: the first of a text a 00 of its own, any other a part of its write's
 abbrev pub part_of : StagePart → List ℕ → List ℕ
@@ -181,9 +160,8 @@ part_of Tail bytes = drop 1 bytes
 part_of Head bytes = take 1 bytes
 
 -- "a list of stores, each an offset and a value"
-pub record Store : Type 0 where
-  pub offset : ℕ
-  pub value : ℕ
+abbrev pub Store : Type 0
+Store = store.Store
 
 -- "each stage cut into single bytes from its first"
 abbrev pub single_bytes : ℕ → List ℕ → List Store
@@ -204,12 +182,12 @@ abbrev pub values_of : List Store → List ℕ
 values_of ss = map (λ (s : Store). s.value) ss
 
 -- "A field's stores are those of its write."
-abbrev pub stores_at : LuminaireNumbers → OptionUsize → List ℕ → ℕ → LuminaireField → List Store
+abbrev pub stores_at : LuminaireNumbers → Option ℕ → List ℕ → ℕ → LuminaireField → List Store
 stores_at n which text place f = flat write_stores (writes_at n which text place f)
 
 -- "An accepted plan is `planned_writes`, each write by its `FieldWrite::stages`, each stage cut into single bytes from its
 -- first: a list of stores"
-unfoldable pub plan_stores : LuminaireNumbers → OptionUsize → List ℕ → List Store
+unfoldable pub plan_stores : LuminaireNumbers → Option ℕ → List ℕ → List Store
 plan_stores n which text = flat write_stores (planned_writes n which text)
 
 -- the mask bit of a number field
@@ -235,14 +213,14 @@ number_writes ws = flat (λ (w : Write). if_number w.field.kind w) ws
 -- "The number of wanted numbers is the count of set mask bits": as many number writes are planned, where no other bit is set.
 abbrev pub EveryWantedNumberPlanned : Type 0
 EveryWantedNumberPlanned =
-    (n : LuminaireNumbers) (which : OptionUsize) (text : List ℕ) →
+    (n : LuminaireNumbers) (which : Option ℕ) (text : List ℕ) →
     n.patch_mask ≤ 2047 → length (number_writes (planned_writes n which text)) ≡ ones n.patch_mask
 
 -- "it keeps the low bytes": as many as the field has, high byte first
 abbrev pub EveryNumberKept : Type 0
 EveryNumberKept =
     (n : LuminaireNumbers) (f : LuminaireField) (value : ℕ) (bytes : List ℕ) →
-    wanted_number n f.kind ≡ some value → number_bytes n f ≡ some bytes →
+    wanted_number n f.kind ≡ Some value → number_bytes n f ≡ Some bytes →
     (length bytes ≡ f.len) × (number bytes ≡ value % 2 ^ (8 * f.len))
 
 -- the write of a text
@@ -256,9 +234,9 @@ text_writes ws = flat (λ (w : Write). if_text w.field.kind w) ws
 
 -- "at most one text with its field index": the write of the text that is wanted, and of no other
 pub record TextPlanned (n : LuminaireNumbers) (text : List ℕ) : Type 0 where
-  pub wanted : (place : ℕ) (f : LuminaireField) → get_elem? luminaire_fields place ≡ some f → is_text_kind f.kind ≡ true
-      → text_writes (planned_writes n (OptionUsize.Some place) text) ≡ written place f (terminated f text) ∷ []
-  pub other : (which : OptionUsize) → ((place : ℕ) (f : LuminaireField) → get_elem? luminaire_fields place ≡ some f → is_text_kind f.kind ≡ true → is_for which place ≡ false)
+  pub wanted : (place : ℕ) (f : LuminaireField) → slice_get luminaire_fields place ≡ Some f → is_text_kind f.kind ≡ true
+      → text_writes (planned_writes n (Some place) text) ≡ written place f (terminated f text) ∷ []
+  pub other : (which : Option ℕ) → ((place : ℕ) (f : LuminaireField) → slice_get luminaire_fields place ≡ Some f → is_text_kind f.kind ≡ true → is_for which place ≡ false)
       → text_writes (planned_writes n which text) ≡ []
 
 abbrev pub EveryWantedTextPlanned : Type 0
@@ -274,7 +252,7 @@ InField f s = (f.offset ≤ s.offset) × (s.offset < field_end f)
 
 -- each within its own field
 pub record InPlace (w : Write) : Type 0 where
-  pub of_table : get_elem? luminaire_fields w.index ≡ some w.field
+  pub of_table : slice_get luminaire_fields w.index ≡ Some w.field
   pub fits : length w.bytes ≤ w.field.len
   pub inside : Each (InField w.field) (write_stores w)
 
@@ -289,7 +267,7 @@ pub record InOrder (ws : List Write) : Type 0 where
   pub rising : Rising 0 ws
 
 abbrev pub EveryPlanInOrder : Type 0
-EveryPlanInOrder = (n : LuminaireNumbers) (which : OptionUsize) (text : List ℕ) → InOrder (planned_writes n which text)
+EveryPlanInOrder = (n : LuminaireNumbers) (which : Option ℕ) (text : List ℕ) → InOrder (planned_writes n which text)
 
 -- A text of two or more bytes is emptied first and gets its first byte last; any other write is stored from its first byte on.
 pub record Staged (place : ℕ) (f : LuminaireField) : Type 0 where

@@ -1,10 +1,9 @@
 // What a bus unit is made of (bus_unit.rs, DiiA 098bp §7.2.7).
-ghost use Rattle.std.specs.Prelude.{◌≡◌, length, set};
-ghost use Rattle.bus.specs.Options.{option_u8};
+ghost use Rattle.std.specs.Prelude.{◌≡◌, length};
 ghost use Rattle.bus.specs.Value.{laid_into};
 ghost use Rattle.records.specs.BusUnit.{letter_of, emergency_letter, from_byte, raw_of, in_range, parts_of};
 
-use bus::OptionU8;
+use crate::output::put;
 
 pub const BUS_UNIT_CONFIGURATION_OFFSET: u8 = 0x1B;
 
@@ -46,18 +45,16 @@ impl EmergencyGearType {
 }
 
 impl BusUnitConfiguration {
-    pub fn emergency_letter(self) -> OptionU8
-        ensures { result ≡ option_u8 (emergency_letter self) }
+    pub fn emergency_letter(self) -> Option<u8>
+        ensures { result ≡ emergency_letter self }
     {
         match self {
-            BusUnitConfiguration::EmergencyType(gear) => OptionU8::Some(gear.letter()),
-            BusUnitConfiguration::Defined(_) => OptionU8::None,
-            BusUnitConfiguration::Reserved(_) => OptionU8::None,
-            BusUnitConfiguration::ManufacturerSpecific(_) => OptionU8::None,
+            BusUnitConfiguration::EmergencyType(gear) => Some(gear.letter()),
+            _ => None,
         }
     }
 
-    // DiiA 098bp Table 5
+    // DiiA 098bp Table 5. Every byte has a case, and this and `raw` keep the Rust's names.
     pub fn from_byte(raw: u8) -> Self
         ensures { result ≡ from_byte raw }
     {
@@ -76,15 +73,15 @@ impl BusUnitConfiguration {
         ensures { result ≡ raw_of self }
     {
         match self {
-            BusUnitConfiguration::Defined(raw) => raw,
+            BusUnitConfiguration::Defined(raw)
+            | BusUnitConfiguration::Reserved(raw)
+            | BusUnitConfiguration::ManufacturerSpecific(raw) => raw,
             BusUnitConfiguration::EmergencyType(gear) => match gear {
                 EmergencyGearType::A => 9,
                 EmergencyGearType::B => 10,
                 EmergencyGearType::C => 11,
                 EmergencyGearType::D => 12,
             },
-            BusUnitConfiguration::Reserved(raw) => raw,
-            BusUnitConfiguration::ManufacturerSpecific(raw) => raw,
         }
     }
 }
@@ -120,23 +117,12 @@ impl ImplementedParts {
             return 0;
         }
         let mut count = 0;
-        let mut bit = 0;
-        while bit < IMPLEMENTED_PART_BITS {
+        for bit in 0..IMPLEMENTED_PART_BITS {
             if (self.0 >> bit) % 2 == 1 {
-                store(out, count, FIRST_IMPLEMENTED_PART + bit as u16);
+                put(out, count, FIRST_IMPLEMENTED_PART + bit as u16);
                 count += 1;
             }
-            bit += 1;
         }
         count
-    }
-}
-
-// Stores a part at an index, where the slice has one.
-fn store(out: &mut [u16], at: usize, part: u16)
-    ensures { out.new ≡ set out.old at part }
-{
-    if at < out.len() {
-        out[at] = part;
     }
 }

@@ -42,29 +42,22 @@ pub enum IdentityCause {
     Unprovable,
 }
 
-#[derive(Clone, Copy)]
-pub enum ResultDeviceIdentity {
-    Ok(DeviceIdentity),
-    Err(IdentityCause),
-}
-
 impl IdentityRead {
     // From the bytes of bank 0, its first on.
     pub fn of_bank0(bank: &[u8]) -> Self
         ensures { result ≡ of_bank0 bank.now }
     {
-        if bank.len() == 0 {
+        let Some(last) = bank.first() else {
             return IdentityRead::Unread;
-        }
-        if bank[0] < LOGICAL_GEAR_INDEX_OFFSET {
+        };
+        if *last < LOGICAL_GEAR_INDEX_OFFSET {
             return IdentityRead::Unprovable;
         }
         let from = GTIN_OFFSET as usize;
-        let end = from + IDENTITY_WINDOW_LEN as usize;
-        if bank.len() < end {
-            return IdentityRead::Unread;
+        match bank.get(from..from + IDENTITY_WINDOW_LEN as usize) {
+            Some(window) => IdentityRead::of_window(window),
+            None => IdentityRead::Unread,
         }
-        IdentityRead::of_window(&bank[from..end])
     }
 
     // From the bytes that hold an identity, 03 to 1A hex of bank 0.
@@ -91,13 +84,13 @@ impl IdentityRead {
         })
     }
 
-    pub fn known(self) -> ResultDeviceIdentity
+    pub fn known(self) -> Result<DeviceIdentity, IdentityCause>
         ensures { result ≡ known_of self }
     {
         match self {
-            IdentityRead::Known(identity) => ResultDeviceIdentity::Ok(identity),
-            IdentityRead::Unread => ResultDeviceIdentity::Err(IdentityCause::Unknown),
-            IdentityRead::Unprovable => ResultDeviceIdentity::Err(IdentityCause::Unprovable),
+            IdentityRead::Known(identity) => Ok(identity),
+            IdentityRead::Unread => Err(IdentityCause::Unknown),
+            IdentityRead::Unprovable => Err(IdentityCause::Unprovable),
         }
     }
 }
@@ -115,12 +108,10 @@ fn within(window: &[u8], offset: u8, len: usize) -> &[u8]
 pub(crate) fn is_mask(bytes: &[u8]) -> bool
     ensures { result ≡ all_ff bytes.now }
 {
-    let mut i = 0;
-    while i < bytes.len() {
-        if bytes[i] != MASK {
+    for byte in bytes {
+        if *byte != MASK {
             return false;
         }
-        i += 1;
     }
     true
 }

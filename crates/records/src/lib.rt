@@ -6,6 +6,7 @@
 pub mod attributes;
 pub mod bus_unit;
 pub mod cut_plan;
+mod fixed_list;
 pub mod fixed_text;
 pub mod identity;
 pub mod luminaire_write;
@@ -14,27 +15,14 @@ pub mod output;
 pub mod part251;
 mod utf8;
 
-pub use attributes::{BankReading, LuminaireValue, OptionBankReading, OptionLuminaireValue};
-use bank::Refusal;
+pub use attributes::{BankReading, LuminaireValue};
 pub use bus_unit::{BusUnitConfiguration, EmergencyGearType, ImplementedParts};
-pub use fixed_text::{FixedText, TextLimit};
-pub use identity::{DeviceIdentity, IdentityCause, IdentityRead, ResultDeviceIdentity};
+pub use fixed_text::FixedText;
+pub use identity::{DeviceIdentity, IdentityCause, IdentityRead};
 pub use luminaire_write::{
-    FieldWrite, LuminaireNumbers, OptionWriteStage, Plan, StagePart, WriteStage, planned_writes,
+    FieldWrite, LuminaireNumbers, Plan, StagePart, WriteStage, planned_writes,
 };
 pub use memory_bank_parser::{
     ParsedBusUnit, ParsedCondition, ParsedEnergyBank, ParsedGearDiagnostics, ParsedLuminaire,
     ParsedLuminaireMaintenance, ParsedMemoryIdentity, ParsedMemoryProfile, ParsedSourceDiagnostics,
 };
-
-#[derive(Clone, Copy)]
-pub enum OptionI8 {
-    Some(i8),
-    None,
-}
-
-#[derive(Clone, Copy)]
-pub enum ResultUsize {
-    Ok(usize),
-    Err(Refusal),
-}

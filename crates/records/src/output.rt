@@ -3,12 +3,12 @@ ghost use Rattle.std.specs.Prelude.{◌≡◌, ◌<◌, set};
 ghost use Rattle.std.proofs.lemmas.List.Edits.{sets};
 ghost use Rattle.records.specs.Text.{hex_digit, hex_digits};
 
-// Stores a byte at an index, where the slice has one.
-pub fn put(out: &mut [u8], at: usize, byte: u8)
-    ensures { out.new ≡ set out.old at byte }
+// Stores a value at an index, where the slice has one.
+pub fn put<T: Copy>(out: &mut [T], at: usize, value: T)
+    ensures { out.new ≡ set out.old at value }
 {
     if at < out.len() {
-        out[at] = byte;
+        out[at] = value;
     }
 }
 
@@ -19,18 +19,11 @@ pub fn put_all(out: &mut [u8], at: usize, bytes: &[u8])
     if out.len() <= at {
         return;
     }
-    let room = out.len() - at;
-    let mut i = 0;
-    while i < bytes.len() {
-        if room <= i {
-            return;
-        }
-        out[at + i] = bytes[i];
-        i += 1;
-    }
+    let n = usize::min(bytes.len(), out.len() - at);
+    out[at..at + n].copy_from_slice(&bytes[..n]);
 }
 
-// A byte in two upper-case hex digits.
+// A byte in two upper-case hex digits. `write!` answers a result, and here nothing can fail.
 pub fn hex_digits(byte: u8) -> [u8; 2]
     ensures { result ≡ hex_digits byte }
 {

@@ -16,13 +16,10 @@ pub fn text_bytes(bank: &[u8], region: TextRegion) -> &[u8]
     ensures { result.now ≡ text_bytes bank.now region }
 {
     let start = region.offset as usize;
-    let end = start + region.len as usize;
-    if bank.len() < end {
-        return &bank[..0];
+    match bank.get(start..start + region.len as usize) {
+        Some(raw) => &raw[..text_len(raw)],
+        None => &[],
     }
-    let len = text_len(&bank[start..end]);
-    let cut = start + len;
-    &bank[start..cut]
 }
 
 // How many bytes stand before the first 00.
@@ -30,12 +27,10 @@ pub fn text_bytes(bank: &[u8], region: TextRegion) -> &[u8]
 pub(crate) fn text_len(raw: &[u8]) -> usize
     ensures { (result ≤ length raw.now) × (take result raw.now ≡ until_zero raw.now) }
 {
-    let mut i = 0;
-    while i < raw.len() {
-        if raw[i] == 0 {
+    for (i, byte) in raw.iter().enumerate() {
+        if *byte == 0 {
             return i;
         }
-        i += 1;
     }
-    i
+    raw.len()
 }

@@ -1,9 +1,9 @@
 -- Laws of what a plan answers to slices that are long enough for any, and of how much is printed at most.
 -- Assumes nothing.
+use Rattle.std.specs.Prelude.{None, Option, Some}
 use mathlib.Core.Path.{◌≡◌, refl, sym, ap, ◌∙◌}
 use mathlib.Core.List.{List, ◌++◌}
-use mathlib.Core.Option.{Option, none, some}
-use Prim.Native.Nat.{ℕ, ◌+◌, ◌-◌, ◌*◌, ◌≤◌}
+use Prim.Native.Nat.{ℕ, ◌+◌, ◌-◌, ◌≤◌}
 use native.Mathlib.Omega.{arith}
 use lib.Dec.{lit≤}
 use lib.ListN.{length, take, drop, length-append}
@@ -15,18 +15,18 @@ use Rattle.records.specs.declared.luminaire_write.Plan.{Plan}
 use Rattle.records.specs.Writes.{Store, flat, offsets_of, values_of}
 use Rattle.records.specs.Plan.{plan_checks, stores_of}
 use Rattle.records.proofs.Room.{AcceptedPlan, stores_bound}
-use Rattle.records.proofs.Stores.{offsets_count, values_count}
+use Rattle.records.proofs.Stores.{offsets_count}
 use Rattle.stores.specs.File.{is_good, text_in, plan_in, parsed}
 use Rattle.stores.specs.Listing.{counted, line, stores_word, refused_word, bad_file, stores_text, refused_text, plan_text, printed}
 use Rattle.stores.specs.Steps.{lines}
 use Rattle.stores.proofs.Heads.{text_is}
-use Rattle.stores.proofs.Lines.{decimal_short, counted_length, two_laid, lines_length, lines_of}
+use Rattle.stores.proofs.Lines.{decimal_short, counted_length, two_laid, lines_few, lines_of}
 
 module _ (p : Plan) (text : List ℕ) where
-  pub refused_text_lem : {r : Refusal} → first_of (plan_checks p text) ≡ some r → plan_text p text ≡ refused_text r
+  pub refused_text_lem : {r : Refusal} → first_of (plan_checks p text) ≡ Some r → plan_text p text ≡ refused_text r
   refused_text_lem e = rw e
 
-  pub stores_text_lem : first_of (plan_checks p text) ≡ none → plan_text p text ≡ stores_text (stores_of p text)
+  pub stores_text_lem : first_of (plan_checks p text) ≡ None → plan_text p text ≡ stores_text (stores_of p text)
   stores_text_lem e = rw e
 
 -- its lines, and their room
@@ -55,25 +55,24 @@ refused_short r = rw (counted_length refused_word (number_of r)) (omega (arith, 
 
 stores_short : (ss : List Store) → length ss ≤ 203 → length (stores_text ss) ≤ 4096
 stores_short ss h =
-    let n : length (lines (offsets_of ss) (values_of ss)) ≡ 6 * length ss = lines_length (offsets_of ss) (values_of ss) (values_count ss ∙ sym (offsets_count ss)) ∙ ap (λ (k : ℕ). 6 * k) (offsets_count ss) in
     let body = flat (λ (s : Store). line s.offset s.value) ss in
     let all : length (stores_text ss) ≡ length (counted stores_word (length ss)) + length body = length-append (counted stores_word (length ss)) body in
-    omega (arith, all, counted_length stores_word (length ss), decimal_short (length ss), ap length (lines_of ss), n, h)
+    omega (arith, all, counted_length stores_word (length ss), decimal_short (length ss), ap length (lines_of ss), lines_few (offsets_of ss) (values_of ss), offsets_count ss, h)
 
 plan_short : (p : Plan) (text : List ℕ) → length (plan_text p text) ≤ 4096
 plan_short p text = go (first_of (plan_checks p text)) refl
   where
     go : (o : Option Refusal) → first_of (plan_checks p text) ≡ o → length (plan_text p text) ≤ 4096
-    go (some r) e = rw (refused_text_lem p text e) (refused_short r)
-    go none e = rw (stores_text_lem p text e) (stores_short (stores_of p text) (stores_bound p.numbers p.text_field text))
+    go (Some r) e = rw (refused_text_lem p text e) (refused_short r)
+    go None e = rw (stores_text_lem p text e) (stores_short (stores_of p text) (stores_bound p.numbers p.text_field text))
 
 -- by what a file asks for
 module _ (file : List ℕ) where
-  pub plan_printed : {p : Plan} → parsed file ≡ some p → printed file ≡ plan_text p (take (length file - 31) (drop 31 file))
+  pub plan_printed : {p : Plan} → parsed file ≡ Some p → printed file ≡ plan_text p (take (length file - 31) (drop 31 file))
   unfolding printed
   plan_printed {p} e = rw e (ap (plan_text p) (text_is file))
 
-  pub bad_printed : parsed file ≡ none → printed file ≡ bad_file
+  pub bad_printed : parsed file ≡ None → printed file ≡ bad_file
   unfolding printed
   bad_printed e = rw e
 

@@ -1,28 +1,22 @@
 -- Laws of what a file says: each part by its bytes, and what a good file is known to have.
 -- Assumes nothing.
-use mathlib.Core.Path.{◌≡◌, refl, sym, ap, ◌∙◌}
+use Rattle.std.specs.Prelude.{None, Some}
+use Rattle.std.specs.Bool.{then_some}
+use mathlib.Core.Path.{◌≡◌, refl, sym, ◌∙◌}
 use mathlib.Core.Bool.{Bool, true, false, not, cond, ◌&&◌, ◌||◌, true≢false}
-use mathlib.Core.List.{List, [], ◌∷◌}
-use mathlib.Core.Option.{Option, none, some}
+use mathlib.Core.List.{List}
 use Prim.Native.Nat.{ℕ, ◌+◌, ◌-◌, ◌≤◌, ◌<◌}
 use native.Mathlib.Omega.{arith}
 use borrow.Author.Tests.{ltb-true, ltb-false, ne_eqb}
 use lib.Dec.{eqb, ltb}
-use lib.ListN.{length, take, drop, get_or, length-drop}
+use lib.ListN.{length, take, drop, length-drop}
 use lib.Seq.{take_all}
 use Rattle.bus.specs.Number.{number}
-use Rattle.bus.proofs.Options.{told}
 use Rattle.bus.proofs.Lists.{no_element}
 use Rattle.bus.proofs.Tests.{by_test}
-use Rattle.bank.specs.declared.OptionUsize.{OptionUsize}
 use Rattle.bank.specs.Fields.{luminaire_fields}
 use Rattle.records.specs.declared.luminaire_write.Plan.{Plan}
-use Rattle.stores.specs.declared.file.OptionPlan.{OptionPlan}
-use Rattle.stores.specs.File.{is_marked, is_good, text_field_of, text_in, parsed, option_plan}
-
-and_true : (a : Bool) → (a && true) ≡ a
-and_true true = refl
-and_true false = refl
+use Rattle.stores.specs.File.{is_marked, is_good, text_field_of, text_in, parsed}
 
 -- a third test that fails
 no_third : (a b : Bool) → (a && (b && false)) ≡ false
@@ -30,13 +24,10 @@ no_third true true = refl
 no_third true false = refl
 no_third false b = refl
 
--- the mark, byte by byte
-pub mark_is : (file : List ℕ) → 3 ≤ length file → is_marked file ≡ (eqb (get_or file 0 0) 0x4C && (eqb (get_or file 1 0) 0x57 && eqb (get_or file 2 0) 0x45))
-unfolding is_marked
-mark_is [] h = let z : ⊥ = omega (arith, h) in absurd z
-mark_is (x ∷ []) h = let z : ⊥ = omega (arith, h) in absurd z
-mark_is (x ∷ y ∷ []) h = let z : ⊥ = omega (arith, h) in absurd z
-mark_is (x ∷ y ∷ z ∷ file) h = ap (λ (t : Bool). eqb x 0x4C && (eqb y 0x57 && t)) (and_true (eqb z 0x45))
+-- a value unless a test holds
+pub unless : (t : Bool) (n : ℕ) → then_some (not t) n ≡ cond t None (Some n)
+unless true n = refl
+unless false n = refl
 
 module _ (file : List ℕ) where
   -- the tests of a good file, whatever stands for its mark, version, text length and text index
@@ -56,7 +47,7 @@ module _ (file : List ℕ) where
       (λ t. absurd (true≢false (sym g ∙ short_bad (ltb-true (length file) 31 t))))
       (λ t. ltb-false (length file) 31 t)
 
-  pub field_is : {i : ℕ} → i ≡ number (take 1 (drop 29 file)) → text_field_of file ≡ cond (eqb i 0xFF) OptionUsize.None (OptionUsize.Some i)
+  pub field_is : {i : ℕ} → i ≡ number (take 1 (drop 29 file)) → text_field_of file ≡ cond (eqb i 0xFF) None (Some i)
   unfolding text_field_of luminaire_fields
   field_is e = rw e
 
@@ -66,16 +57,8 @@ module _ (file : List ℕ) where
   text_is = sym (take_all (length file - 31) (drop 31 file) (rw length-drop (omega arith)))
 
   -- only a good file has a plan
-  pub plan_good : {p : Plan} → parsed file ≡ some p → is_good file ≡ true
+  pub plan_good : {p : Plan} → parsed file ≡ Some p → is_good file ≡ true
   plan_good e =
       by_test (is_good file)
       (λ t. t)
       (λ t. no_element (rw t at e))
-
--- what a match tells of a file's plan
-abbrev plan_of : OptionPlan → Option Plan
-plan_of (OptionPlan.Some p) = some p
-plan_of OptionPlan.None = none
-
-pub told_plan : (o : Option Plan) {e t : OptionPlan} → e ≡ option_plan o → e ≡ t → o ≡ plan_of t
-told_plan o h t = told option_plan plan_of refl (λ p. refl) o h t

@@ -1,27 +1,15 @@
 -- Laws of reading and writing: what is printed for the bytes that a reader has comes behind those that a writer holds.
 -- Assumes nothing.
-use Rattle.std.specs.Prelude.{◌≡◌, ℕ, ◌+◌, ◌-◌, ◌<◌, ◌≤◌, List, ◌++◌, length, take, drop, ltb, Option, Some, None, Result, Ok, Err, IfSome, OnErr, OnOk}
+use Rattle.std.specs.Prelude.{◌≡◌, ℕ, ◌<◌, ◌≤◌, List, ◌++◌, length, take, ltb, Option, Some, None, Result, Ok, Err, IfSome, OnErr, OnOk}
 use Rattle.std.specs.Io.KnownBytes.{Appends, Consumes, IsAtEnd}
-use Rattle.std.proofs.Common.{sym, ap, ◌∙◌, subst, arith, append-nil, drop_at, length-take-le, take_all, take_at}
-use Rattle.std.proofs.KnownBytes.{Appends-trans, Consumes-trans}
+use Rattle.std.proofs.Common.{sym, ap, ◌∙◌, subst, arith, append-nil, length-take-le, take_all, take_at}
 use Rattle.std.proofs.lemmas.Bool.{ltb-true, ltb-false}
-use Rattle.std.proofs.lemmas.List.{take-append-le, take_rest}
-use borrow.Rule.Slice.PartMut.{put_mid, post_of, take_put}
-use lib.Seq.{take-add}
 use Rattle.bus.specs.Value.{laid_into}
 use Rattle.bus.proofs.Lists.{sets_laid}
 use Rattle.bus.proofs.Tests.{by_test}
 use Rattle.records.proofs.Laying.{front_laid}
 use Rattle.stores.specs.Listing.{printed}
 use Rattle.stores.proofs.Answers.{printed_short}
-
--- what a read gives stands behind what is filled
-pub filled : (a b c : Option (List ℕ)) (block part : List ℕ) (k n count : ℕ) → n ≤ length block → count ≤ length part → Consumes a b (take n block) → Consumes b c (take count part) → Consumes a c (take (n + count) (put_mid n k block part))
-filled a b c block part k n count h fits front read =
-    let rest = post_of n k block in
-    let new = put_mid n k block part in
-    let more = ap (take count) (drop_at (take n block) (part ++ rest) n (length-take-le n block h)) ∙ take-append-le count part rest fits in
-    subst (Consumes a c) (sym (take-add n count new ∙ ap (λ l. l ++ take count (drop n new)) (take_put n k block part h) ∙ ap (λ l. take n block ++ l) more)) (Consumes-trans a b c _ _ front read)
 
 -- the part of the text that is written
 pub whole : (file out : List ℕ) {text : List ℕ} {n : ℕ} → n ≡ length (printed file) → text ≡ laid_into (printed file) out → 4096 ≤ length out → take n text ≡ printed file
@@ -42,11 +30,6 @@ read (Some xs) (Some ys) block n m e h bytes end =
     (λ t.
     let full : n ≡ m = omega (arith, ltb-false n m t, e, h) in
     sym (ap (take m) bytes ∙ take_at (take n block) ys m (length-take-le n block h ∙ full)))
-
--- what one write appends behind what is written
-pub appended : (a b c : Option (List ℕ)) (text : List ℕ) (n count : ℕ) → Appends a b (take n text) → Appends b c (take count (take (length text - n) (drop n text))) → Appends a c (take (n + count) text)
-appended a b c text n count front more =
-    subst (Appends a c) (ap (λ l. take n text ++ take count l) (take_rest text n) ∙ sym (take-add n count text)) (Appends-trans a b c _ _ front more)
 
 -- what is written
 pub written : {E : Type 0} (r : Result (Unit {0}) E) (known old new : Option (List ℕ)) (file : List ℕ) {bytes : List ℕ} → OnOk r (Appends old new bytes) → bytes ≡ printed file → IfSome known (λ xs. file ≡ take 4096 xs) → OnOk r (IfSome known (λ xs. Appends old new (printed (take 4096 xs))))

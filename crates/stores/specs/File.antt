@@ -1,12 +1,7 @@
 -- 01, "Program `stores` reads standard input": what a file says.
 -- Assumes nothing.
-use Rattle.std.specs.Prelude.{Bool, true, not, cond, ◌&&◌, ◌||◌, List, [], ◌∷◌, ◌++◌, ℕ, ◌+◌, eqb, length, take, drop, get_or}
-use Rattle.std.proofs.Math.Option.{Option, none, some}
-use Rattle.bus.specs.declared.OptionU8.{OptionU8}
+use Rattle.std.specs.Prelude.{Bool, true, not, cond, ◌&&◌, ◌||◌, List, [], ◌∷◌, ◌++◌, ℕ, ◌+◌, eqb, length, take, drop, get_or, None, Option, Some}
 use Rattle.bus.specs.Number.{number}
-use Rattle.bank.specs.declared.OptionBool.{OptionBool}
-use Rattle.bank.specs.declared.OptionU16.{OptionU16}
-use Rattle.bank.specs.declared.OptionUsize.{OptionUsize}
 use Rattle.bank.specs.declared.luminaire_write.FieldKind.{FieldKind}
 use Rattle.bank.specs.declared.luminaire_write.FieldKind.TheVariants.{LayoutId, Number, Text}
 use Rattle.bank.specs.declared.luminaire_write.LuminaireField.{LuminaireField}
@@ -16,7 +11,6 @@ use Rattle.bank.specs.Calls.{sum}
 use Rattle.records.specs.declared.luminaire_write.LuminaireNumbers.{LuminaireNumbers}
 use Rattle.records.specs.declared.luminaire_write.Plan.{Plan}
 use Rattle.records.specs.Writes.{flat, same}
-use Rattle.stores.specs.declared.file.OptionPlan.{OptionPlan}
 
 -- "the eleven numbers at their field widths (19)"
 abbrev number_width : FieldKind → ℕ → List ℕ
@@ -61,9 +55,9 @@ is_good file =
 unfoldable pub layout_in : List ℕ → Bank1Layout
 layout_in file =
     record {
-      implemented = OptionBool.Some true;
-      content_format_id = OptionU16.Some (value 3 file);
-      last_offset = OptionU8.Some (value 2 file);
+      implemented = Some true;
+      content_format_id = Some (value 3 file);
+      last_offset = Some (value 2 file);
     }
 
 unfoldable pub numbers_in : List ℕ → LuminaireNumbers
@@ -84,8 +78,8 @@ numbers_in file =
     }
 
 -- "text index (FF hex: no text, length 0)"
-unfoldable pub text_field_of : List ℕ → OptionUsize
-text_field_of file = cond (eqb (text_index file) 0xFF) OptionUsize.None (OptionUsize.Some (text_index file))
+unfoldable pub text_field_of : List ℕ → Option ℕ
+text_field_of file = cond (eqb (text_index file) 0xFF) None (Some (text_index file))
 
 -- "the text"
 unfoldable pub text_in : List ℕ → List ℕ
@@ -96,8 +90,4 @@ abbrev pub plan_in : List ℕ → Plan
 plan_in file = record { layout = layout_in file; numbers = numbers_in file; text_field = text_field_of file }
 
 abbrev pub parsed : List ℕ → Option Plan
-parsed file = cond (is_good file) (some (plan_in file)) none
-
-abbrev pub option_plan : Option Plan → OptionPlan
-option_plan (some p) = OptionPlan.Some p
-option_plan none = OptionPlan.None
+parsed file = cond (is_good file) (Some (plan_in file)) None

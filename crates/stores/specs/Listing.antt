@@ -1,7 +1,6 @@
 -- 01, "Program `stores`": what is printed, in ASCII.
 -- Assumes nothing.
-use Rattle.std.specs.Prelude.{◌≡◌, cond, List, [], ◌∷◌, ◌++◌, ℕ, ◌+◌, ◌/◌, ◌%◌, ltb, length, replicate}
-use Rattle.std.proofs.Math.Option.{Option, none, some}
+use Rattle.std.specs.Prelude.{◌≡◌, cond, List, [], ◌∷◌, ◌++◌, ℕ, ◌+◌, ◌/◌, ◌%◌, ltb, length, replicate, None, Option, Some}
 use Rattle.bank.specs.declared.refusal.Refusal.{Refusal}
 use Rattle.bank.specs.Refusal.{number_of, checked}
 use Rattle.records.specs.declared.luminaire_write.Plan.{Plan}
@@ -53,8 +52,8 @@ plan_text p text = checked (plan_checks p text) refused_text (stores_text (store
 
 -- the plan's stores or its refusal, "or `bad file`"; slices are long enough, so 13 doesn't arise
 abbrev text_of : Option Plan → List ℕ → List ℕ
-text_of none text = bad_file
-text_of (some p) text = plan_text p text
+text_of None text = bad_file
+text_of (Some p) text = plan_text p text
 
 unfoldable pub printed : List ℕ → List ℕ
 printed file = text_of (parsed file) (text_in file)

@@ -1,114 +1,113 @@
 // What a file says.
 ghost use Rattle.std.specs.Prelude.{◌≡◌, ◌+◌, ◌*◌, ◌^◌, ◌≤◌, ◌<◌, length, take, drop};
 ghost use Rattle.bus.specs.Number.{number};
-ghost use Rattle.stores.specs.File.{is_marked, is_good, layout_in, numbers_in, text_field_of, parsed, option_plan};
+ghost use Rattle.stores.specs.File.{is_marked, is_good, layout_in, numbers_in, text_field_of, parsed};
 
-use bank::{Bank1Layout, OptionBool, OptionU16, OptionUsize};
-use bus::{OptionU8, number_of};
+use bank::Bank1Layout;
+use bus::number_of;
 use records::{LuminaireNumbers, Plan};
 
 // The length of a file without its text.
 pub(crate) const HEAD_LEN: usize = 31;
 
+const MARK: &[u8] = b"LWE";
+
 const VERSION: u32 = 1;
 
-// The text index of a file that has no text.
+// The text index of a file that has no text: the file has a number there, by 01.
 const NO_TEXT: u32 = 0xFF;
 
+// A file that has its head. The text is behind it.
 #[derive(Clone, Copy)]
-pub(crate) enum OptionPlan {
-    Some(Plan),
-    None,
+struct File<'a> {
+    bytes: &'a [u8],
+    ghost has_head: { 31 ≤ length bytes.now },
 }
 
-// The number that so many bytes make, high byte first.
-fn number_at(file: &[u8], at: usize, len: usize) -> u32
-    requires { (len ≤ 4) × (at + len ≤ length file.now) }
-    ensures value { result ≡ number (take len (drop at file.now)) }
-    ensures small { result < 2 ^ (8 * len) }
-{
-    number_of(&file[at..at + len]) as u32
-}
+impl<'a> File<'a> {
+    // The number that so many bytes of the head make, high byte first.
+    fn number(self, at: usize, len: usize) -> u32
+        requires { (len ≤ 4) × (at + len ≤ 31) }
+        ensures value { result ≡ number (take len (drop at self.entry.bytes.now)) }
+        ensures small { result < 2 ^ (8 * len) }
+    {
+        number_of(&self.bytes[at..at + len]) as u32
+    }
 
-fn is_marked(file: &[u8]) -> bool
-    requires { 31 ≤ length file.now }
-    ensures { result ≡ is_marked file.now }
-{
-    file[0] == b'L' && file[1] == b'W' && file[2] == b'E'
-}
+    fn is_marked(self) -> bool
+        ensures { result ≡ is_marked self.entry.bytes.now }
+    {
+        &self.bytes[..MARK.len()] == MARK
+    }
 
-// Whether mark, version and total length are right, and a file without a text has none.
-fn is_good(file: &[u8]) -> bool
-    ensures { result ≡ is_good file.now }
-{
-    if file.len() < HEAD_LEN {
-        return false;
+    // Whether mark, version and total length are right, and a file without a text has none.
+    fn is_good(self) -> bool
+        ensures { result ≡ is_good self.entry.bytes.now }
+    {
+        if !self.is_marked() {
+            return false;
+        }
+        if self.number(3, 2) != VERSION {
+            return false;
+        }
+        let text_len = self.number(30, 1) as usize;
+        if self.bytes.len() - HEAD_LEN != text_len {
+            return false;
+        }
+        self.number(29, 1) != NO_TEXT || text_len == 0
     }
-    if !is_marked(file) {
-        return false;
-    }
-    if number_at(file, 3, 2) != VERSION {
-        return false;
-    }
-    let text_len = number_at(file, 30, 1) as usize;
-    if file.len() - HEAD_LEN != text_len {
-        return false;
-    }
-    number_at(file, 29, 1) != NO_TEXT || text_len == 0
-}
 
-fn layout_in(file: &[u8]) -> Bank1Layout
-    requires { 31 ≤ length file.now }
-    ensures { result ≡ layout_in file.now }
-{
-    Bank1Layout {
-        implemented: OptionBool::Some(true),
-        content_format_id: OptionU16::Some(number_at(file, 6, 2) as u16),
-        last_offset: OptionU8::Some(number_at(file, 5, 1) as u8),
+    fn layout(self) -> Bank1Layout
+        ensures { result ≡ layout_in self.entry.bytes.now }
+    {
+        Bank1Layout {
+            implemented: Some(true),
+            content_format_id: Some(self.number(6, 2) as u16),
+            last_offset: Some(self.number(5, 1) as u8),
+        }
     }
-}
 
-fn numbers_in(file: &[u8]) -> LuminaireNumbers
-    requires { 31 ≤ length file.now }
-    ensures { result ≡ numbers_in file.now }
-{
-    LuminaireNumbers {
-        patch_mask: number_at(file, 8, 2) as u16,
-        year: number_at(file, 10, 1),
-        week: number_at(file, 11, 1),
-        nominal_input_power_w: number_at(file, 12, 2),
-        power_at_minimum_w: number_at(file, 14, 2),
-        nominal_min_ac_voltage_v: number_at(file, 16, 2),
-        nominal_max_ac_voltage_v: number_at(file, 18, 2),
-        nominal_light_output_lm: number_at(file, 20, 3),
-        cri: number_at(file, 23, 1),
-        cct_kelvin: number_at(file, 24, 2),
-        light_distribution_type: number_at(file, 26, 1),
-        lamp_current_ma: number_at(file, 27, 2),
+    fn numbers(self) -> LuminaireNumbers
+        ensures { result ≡ numbers_in self.entry.bytes.now }
+    {
+        LuminaireNumbers {
+            patch_mask: self.number(8, 2) as u16,
+            year: self.number(10, 1),
+            week: self.number(11, 1),
+            nominal_input_power_w: self.number(12, 2),
+            power_at_minimum_w: self.number(14, 2),
+            nominal_min_ac_voltage_v: self.number(16, 2),
+            nominal_max_ac_voltage_v: self.number(18, 2),
+            nominal_light_output_lm: self.number(20, 3),
+            cri: self.number(23, 1),
+            cct_kelvin: self.number(24, 2),
+            light_distribution_type: self.number(26, 1),
+            lamp_current_ma: self.number(27, 2),
+        }
     }
-}
 
-fn text_field_in(file: &[u8]) -> OptionUsize
-    requires { 31 ≤ length file.now }
-    ensures { result ≡ text_field_of file.now }
-{
-    let index = number_at(file, 29, 1);
-    if index == NO_TEXT {
-        return OptionUsize::None;
+    fn text_field(self) -> Option<usize>
+        ensures { result ≡ text_field_of self.entry.bytes.now }
+    {
+        let index = self.number(29, 1);
+        (index != NO_TEXT).then_some(index as usize)
     }
-    OptionUsize::Some(index as usize)
 }
 
 // The plan that a file asks for; none for a bad file. The text is what is behind the head.
-pub(crate) fn parse(file: &[u8]) -> OptionPlan
-    ensures { result ≡ option_plan (parsed file.now) }
+pub(crate) fn parse(file: &[u8]) -> Option<Plan>
+    ensures { result ≡ parsed file.now }
 {
-    if !is_good(file) {
-        return OptionPlan::None;
+    if file.len() < HEAD_LEN {
+        return None;
     }
-    OptionPlan::Some(Plan {
-        layout: layout_in(file),
-        numbers: numbers_in(file),
-        text_field: text_field_in(file),
+    let given = File { bytes: file };
+    if !given.is_good() {
+        return None;
+    }
+    Some(Plan {
+        layout: given.layout(),
+        numbers: given.numbers(),
+        text_field: given.text_field(),
     })
 }

@@ -5,19 +5,22 @@ ghost use Rattle.bus.specs.Value.{laid_into};
 ghost use Rattle.stores.specs.Listing.{digit, decimal, counted, line, refused_text, plan_text, printed};
 ghost use Rattle.stores.specs.Steps.{lines};
 
-use crate::file::{HEAD_LEN, OptionPlan, parse};
+use crate::file::{HEAD_LEN, parse};
 use bank::Refusal;
+use records::Plan;
 use records::output::{hex_digits, put, put_all};
-use records::{Plan, ResultUsize};
 
 // Room for the stores of any plan.
 const STORES: usize = 256;
 
-const BAD_FILE: [u8; 9] = [b'b', b'a', b'd', b' ', b'f', b'i', b'l', b'e', b'\n'];
+// The bytes of a store's line.
+const LINE_LEN: usize = 6;
 
-const STORES_WORD: [u8; 7] = [b's', b't', b'o', b'r', b'e', b's', b' '];
+const BAD_FILE: &[u8] = b"bad file\n";
 
-const REFUSED_WORD: [u8; 8] = [b'r', b'e', b'f', b'u', b's', b'e', b'd', b' '];
+const STORES_WORD: &[u8] = b"stores ";
+
+const REFUSED_WORD: &[u8] = b"refused ";
 
 fn decimal_digit(n: usize) -> u8
     requires { n < 10 }
@@ -26,7 +29,8 @@ fn decimal_digit(n: usize) -> u8
     b'0' + n as u8
 }
 
-// Puts a number in decimal at an index, and answers the index behind it.
+// Puts a number in decimal at an index, and answers the index behind it. `write!` answers a result, and here nothing can
+// fail.
 fn put_decimal(out: &mut [u8], at: usize, n: usize) -> usize
     requires { (n < 1000) × (at ≤ 65536) }
     ensures end { result ≡ at + length (decimal n) }
@@ -60,7 +64,7 @@ fn put_counted(out: &mut [u8], word: &[u8], n: usize) -> usize
 }
 
 // The line of a store.
-fn line_of(offset: u8, value: u8) -> [u8; 6]
+fn line_of(offset: u8, value: u8) -> [u8; LINE_LEN]
     ensures { result ≡ line offset value }
 {
     let o = hex_digits(offset);
@@ -68,25 +72,25 @@ fn line_of(offset: u8, value: u8) -> [u8; 6]
     [o[0], o[1], b' ', v[0], v[1], b'\n']
 }
 
-// Puts a line for each store at an index, and answers the index behind them.
+// Puts a line for each store, as `Plan::stores` lays them, at an index, and answers the index behind them.
 fn put_lines(out: &mut [u8], at: usize, offsets: &[u8], values: &[u8]) -> usize
-    requires { (at ≤ 65536) × ((length offsets.now ≤ 256) × (length values.now ≡ length offsets.now)) }
+    requires { (at ≤ 65536) × (length offsets.now ≤ 256) }
     ensures end { result ≡ at + length (lines offsets.now values.now) }
     ensures text { out.new ≡ sets out.old at (lines offsets.now values.now) }
 {
-    let mut i = 0;
-    while i < offsets.len() {
-        put_all(out, at + 6 * i, &line_of(offsets[i], values[i]));
-        i += 1;
+    let mut end = at;
+    for (offset, value) in offsets.iter().zip(values) {
+        put_all(out, end, &line_of(*offset, *value));
+        end += LINE_LEN;
     }
-    at + 6 * i
+    end
 }
 
 fn put_refusal(out: &mut [u8], refusal: Refusal) -> usize
     ensures end { result ≡ length (refused_text refusal) }
     ensures text { out.new ≡ sets out.old 0 (refused_text refusal) }
 {
-    put_counted(out, &REFUSED_WORD, refusal.number() as usize)
+    put_counted(out, REFUSED_WORD, refusal.number() as usize)
 }
 
 // Puts the plan's stores or its refusal at the start, and answers the length.
@@ -97,11 +101,11 @@ fn put_plan(out: &mut [u8], plan: Plan, text: &[u8]) -> usize
     let mut offsets = [0; STORES];
     let mut values = [0; STORES];
     match plan.stores(text, &mut offsets, &mut values) {
-        ResultUsize::Ok(count) => {
-            let at = put_counted(out, &STORES_WORD, count);
+        Ok(count) => {
+            let at = put_counted(out, STORES_WORD, count);
             put_lines(out, at, &offsets[..count], &values[..count])
         }
-        ResultUsize::Err(refusal) => put_refusal(out, refusal),
+        Err(refusal) => put_refusal(out, refusal),
     }
 }
 
@@ -111,9 +115,9 @@ pub(crate) fn answer(file: &[u8], out: &mut [u8]) -> usize
     ensures text { out.new ≡ laid_into (printed file.now) out.old }
 {
     match parse(file) {
-        OptionPlan::Some(plan) => put_plan(out, plan, &file[HEAD_LEN..]),
-        OptionPlan::None => {
-            put_all(out, 0, &BAD_FILE);
+        Some(plan) => put_plan(out, plan, &file[HEAD_LEN..]),
+        None => {
+            put_all(out, 0, BAD_FILE);
             BAD_FILE.len()
         }
     }

@@ -11,7 +11,7 @@ use crate::rng::Rng;
 
 pub const TEXT_REFUSAL: Row<TextCase, Result<(), Refusal>> = Row::new(
     0x48,
-    "LuminaireField::text_refusal",
+    "LuminaireField::check_text",
     |(field, text): TextCase| check_accepted(&field, &text),
     refusal_cases,
 )

@@ -2,13 +2,17 @@
 -- Assumes nothing.
 use mathlib.Core.Path.{◌≡◌, sym, ap, ◌∙◌}
 use mathlib.Core.List.{List, ◌++◌}
-use Prim.Native.Nat.{ℕ, ◌*◌, ◌-◌, ◌/◌, ◌%◌, ◌^◌, ◌<◌}
+use Prim.Native.Nat.{ℕ, ◌*◌, ◌-◌, ◌/◌, ◌%◌, ◌^◌, ◌<◌, ◌≤◌}
 use native.Mathlib.Omega.{arith}
 use lib.ListN.{length, set, take, drop, length-set}
 use Rattle.bus.specs.Number.{low_bytes}
 use Rattle.bus.specs.Value.{laid_into, encoded}
 use Rattle.bus.proofs.Number.{length_low_bytes, low_bytes_at}
-use Rattle.bus.proofs.Lists.{laid_suc, laid_all}
+use borrow.Author.Tests.{leb-true, leb-false}
+use mathlib.Core.Logic.{◌⊎◌, inl, inr}
+use lib.Dec.{leb}
+use Rattle.bus.proofs.Tests.{by_test}
+use Rattle.bus.proofs.Lists.{laid_suc, laid_full}
 use Rattle.bus.proofs.encode_value.Goals as goal
 use Rattle.bus.proofs.encode_value.Goals.{At-loop-i}
 
@@ -31,24 +35,21 @@ loop-i-preserved c =
     let a = c.args in
     let i = c.loop-i.i in
     let n = c.bytes-n.result in
+    let low = Low (goal.at.loop-i-preserved c).At-loop-i in
     let b = a.raw / 2 ^ (8 * (n - 1 - i)) % 256 in
-    let in_low : i < length (Low (goal.at.loop-i-preserved c).At-loop-i) = rw (length_low_bytes n a.raw) (omega arith) in (
-      omega arith,
-      (
-        omega arith,
-        (
-          length-set c.loop-i.out i b ∙ c.loop-i.invariant.1.1.0,
-          ap (λ (o : List ℕ). set o i b) c.loop-i.invariant.1.1.1
-              ∙ ap (set (take i (Low (goal.at.loop-i-preserved c).At-loop-i) ++ drop i a.out.now) i) (sym (low_bytes_at n a.raw i (omega arith)))
-              ∙ laid_suc (Low (goal.at.loop-i-preserved c).At-loop-i) a.out.now i 0 in_low (omega arith),
-        ),
-      ),
+    let in_low : i < length low = rw (length_low_bytes n a.raw) (omega arith) in (
+      length-set c.loop-i.out i b ∙ c.loop-i.invariant.0,
+      ap (λ (o : List ℕ). set o i b) c.loop-i.invariant.1
+          ∙ ap (set (take i low ++ drop i a.out.now) i) (sym (low_bytes_at n a.raw i (omega arith)))
+          ∙ laid_suc low a.out.now i 0 in_low (omega arith),
     )
 
 pub returns : goal.returns
 returns c =
     let a = c.args in
-    let i_all : c.loop-i.i ≡ length (Low (goal.at.returns c).At-loop-i) = omega (arith, low_long (goal.at.returns c).At-loop-i) in
-    c.loop-i.invariant.1.1.1
-    ∙ laid_all (Low (goal.at.returns c).At-loop-i) a.out.now c.loop-i.i i_all (omega arith)
-    ∙ of_width (goal.at.returns c).At-loop-i
+    let at = (goal.at.returns c).At-loop-i in
+    let low = Low at in
+    let long : length low ≡ c.bytes-n.result = low_long at in
+    let full : length low ≤ c.loop-i.i ⊎ length a.out.now ≤ c.loop-i.i =
+    by_test (leb c.bytes-n.result (length a.out.now)) (λ t. inl (omega (arith, leb-true _ _ t))) (λ t. inr (omega (arith, leb-false _ _ t))) in
+    c.loop-i.invariant.1 ∙ laid_full low a.out.now c.loop-i.i full (omega arith) (omega arith) ∙ of_width at

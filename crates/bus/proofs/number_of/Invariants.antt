@@ -1,14 +1,8 @@
--- `bus::number_of` meets its contract. The invariant: number is that of the first i bytes, which is below 2 to the 8 i.
--- The measure is the number of bytes that are left of eight.
+-- `bus::number_of` meets its contract. The invariant: number is that of the bytes so far, and below 2 to the 8 for each of them.
 -- Assumes nothing.
-use mathlib.Core.Path.{◌≡◌}
-use Prim.Native.Nat.{◌*◌, ◌-◌, ◌^◌, ◌≤◌, ◌<◌}
-use lib.ListN.{length, take}
+use Rattle.std.proofs.Common.{◌≡◌, ◌*◌, ◌^◌, ◌<◌, take}
 use Rattle.bus.specs.Number as spec
 use Rattle.bus.proofs.number_of.Given as goal
 
-abbrev pub invariant-loop-i : goal.invariant-loop-i
-invariant-loop-i l = (l.i ≤ 8) × ((l.i ≤ length l.bytes) × ((l.number < 2 ^ (8 * l.i)) × (l.number ≡ spec.number (take l.i l.bytes))))
-
-abbrev pub decreases-loop-i : goal.decreases-loop-i
-decreases-loop-i l = 8 - l.i
+abbrev pub invariant-loop-byte : goal.invariant-loop-byte
+invariant-loop-byte l = (l.number < 2 ^ (8 * l.byte-index)) × (l.number ≡ spec.number (take l.byte-index l.first))

@@ -1,10 +1,6 @@
 -- `bank::luminaire_write::first_not_printable` meets its contract, by its invariant.
 -- Assumes nothing.
-use mathlib.Core.Path.{refl, sym, ap, ◌∙◌}
-use mathlib.Core.Option.{Option, get_or}
-use Prim.Native.Nat.{ℕ}
-use native.Mathlib.Omega.{arith}
-use lib.ListN.{length}
+use Rattle.std.proofs.Common.{refl, sym, ◌∙◌}
 use Rattle.bank.specs.Fields.{first_not_printable}
 use Rattle.bank.proofs.Texts.{found, passed_byte}
 use Rattle.bank.proofs.luminaire_write.first_not_printable.Goals as goal
@@ -16,10 +12,9 @@ loop-i-init c = refl
 pub returns-then-not-is_printable : goal.returns-then-not-is_printable
 returns-then-not-is_printable c =
     let outside = sym c.is_printable.ensures ∙ c.if-not-is_printable.true in
-    let text = c.args.text.now in
-    sym (ap (λ (o : Option ℕ). get_or o (length text)) (found text c.loop-i.i c.loop-i.invariant (omega arith) outside))
+    sym (found c.args.text.now c.loop-i.i c.loop-i.invariant c.loop-i-test.true outside)
 
 pub loop-i-preserved : goal.loop-i-preserved
 loop-i-preserved c =
     let inside = sym c.is_printable.ensures ∙ c.if-not-is_printable.false in
-    passed_byte c.args.text.now c.loop-i.i c.loop-i.invariant (omega arith) inside
+    passed_byte c.args.text.now c.loop-i.i c.loop-i.invariant c.loop-i-test.true inside

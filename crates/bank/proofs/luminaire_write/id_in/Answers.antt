@@ -1,17 +1,16 @@
 -- `bank::luminaire_write::id_in` meets its contract: its two bytes make the id.
 -- Assumes nothing.
-use mathlib.Core.Path.{ap, sym, ◌∙◌}
-use native.Mathlib.Omega.{arith}
+use Rattle.std.proofs.Common.{sym, ap, ◌∙◌, ℕ, List, take, Some, arith}
 use Rattle.bus.proofs.Number.{number_part}
-use Rattle.bank.specs.declared.OptionU16.{OptionU16}
-use Rattle.bank.specs.Options.{option_u16}
+use Rattle.bus.specs.Number.{number}
 use Rattle.bank.proofs.Header.{no_id, id}
 use Rattle.bank.proofs.luminaire_write.id_in.Goals as goal
 
-pub returns-then-header-at : goal.returns-then-header-at
-returns-then-header-at c = ap option_u16 (sym (no_id c.args.header.now (omega arith)))
+pub returns-in_err-id : goal.returns-in_err-id
+returns-in_err-id c = c.from_residual.ensures ∙ sym (no_id c.args.header.now (omega (arith, c.in_err-id.ensures.lookup)))
 
 pub returns : goal.returns
 returns c =
     let h = c.args.header.now in
-    ap OptionU16.Some (c.number_of.ensures.value ∙ number_part h 17 2 (omega arith)) ∙ ap option_u16 (sym (id h (omega arith)))
+    ap Some (c.number_of.ensures.value ∙ ap (λ (l : List ℕ). number (take 8 l)) c.in_ok-id.ensures.lookup.0.2 ∙ number_part h 17 2 (omega arith))
+    ∙ sym (id h (omega (arith, c.in_ok-id.ensures.lookup.0.1)))

@@ -1,6 +1,6 @@
 -- `bank::luminaire_write::luminaire_fields` meets its contract: the table is that of the definitions.
 -- Assumes nothing.
-use mathlib.Core.Path.{refl}
+use Rattle.std.proofs.Common.{refl}
 use Rattle.bank.specs.Fields.{luminaire_fields}
 use Rattle.bank.proofs.luminaire_write.luminaire_fields.Goals as goal
 

@@ -1,71 +1,49 @@
 -- `records::cut_plan::store` meets its contract: where the plan is accepted, the cut makes no more stores than there are.
 -- Assumes nothing.
-use mathlib.Core.Path.{◌≡◌, sym, ◌∙◌}
-use Prim.Native.Nat.{◌≤◌, min}
-use native.Mathlib.Omega.{arith}
+use Rattle.std.proofs.Common.{sym, ◌∙◌, ◌≤◌, length, arith}
+use Rattle.std.proofs.lemmas.Result.{err_from_is_err_and}
 use lib.Dec.{lit≤}
-use lib.ListN.{length}
 use lib.Seq.{length-take-le}
 use Rattle.records.proofs.Room.{AcceptedPlan, told_accepted, told_refused, offsets_fit, values_fit, cut_made}
 use Rattle.records.proofs.cut_plan.store.Goals as goal
-use Rattle.records.proofs.cut_plan.store.Goals.{In-Ok, Joined-cut-count, else-cut-count, then-cut-count}
+use Rattle.records.proofs.cut_plan.store.Goals.{After-min-made}
 
 -- what is known where the plan is accepted
-accepted : (c : In-Ok) → (let a = c.args in AcceptedPlan a.plan a.text.now c.in-Ok.count c.stores.new.offsets c.stores.new.values)
+accepted : (c : After-min-made) → (let a = c.args in AcceptedPlan a.plan a.text.now c.in_ok-count.count c.stores.new.offsets c.stores.new.values)
 accepted c =
     let a = c.args in
-    told_accepted a.plan a.text.now _ _ (lit≤ tt) (lit≤ tt) c.stores.ensures.count c.stores.ensures.offsets c.stores.ensures.values c.in-Ok.is
+    told_accepted a.plan a.text.now _ _ (lit≤ tt) (lit≤ tt) c.stores.ensures.count c.stores.ensures.offsets c.stores.ensures.values c.in_ok-count.was
 
--- the cut makes no more stores than there are
-made : (c : Joined-cut-count) → c.if-cut-count.made ≡ min c.args.cut c.in-Ok.count
-made c =
-    elim c.if-cut-count.branch [
-      | then-cut-count w ↦ omega (arith, w.made-is, w.if-cut-count.true)
-      | else-cut-count w ↦ omega (arith, w.made-is, w.if-cut-count.false)
-    ]
+offsets_made : (c : After-min-made) → c.min-made.result ≤ length c.stores.new.offsets
+offsets_made c = omega (arith, c.min-made.ensures, offsets_fit (accepted c))
 
-offsets_made : (c : Joined-cut-count)
-    → (let a = c.args in AcceptedPlan a.plan a.text.now c.in-Ok.count c.stores.new.offsets c.stores.new.values)
-    → c.if-cut-count.made ≤ length c.stores.new.offsets
-offsets_made c e = omega (arith, made c, offsets_fit e)
-
-values_made : (c : Joined-cut-count)
-    → (let a = c.args in AcceptedPlan a.plan a.text.now c.in-Ok.count c.stores.new.offsets c.stores.new.values)
-    → c.if-cut-count.made ≤ length c.stores.new.values
-values_made c e = omega (arith, made c, values_fit e)
+values_made : (c : After-min-made) → c.min-made.result ≤ length c.stores.new.values
+values_made c = omega (arith, c.min-made.ensures, values_fit (accepted c))
 
 pub slice_bounds-offsets-end : goal.slice_bounds-offsets-end
-slice_bounds-offsets-end c =
-    let at = goal.at.slice_bounds-offsets-end c in
-    offsets_made at.Joined-cut-count (accepted at.In-Ok)
+slice_bounds-offsets-end c = offsets_made (goal.at.slice_bounds-offsets-end c).After-min-made
 
 pub slice_bounds-make_stores-end : goal.slice_bounds-make_stores-end
-slice_bounds-make_stores-end c =
-    let at = goal.at.slice_bounds-make_stores-end c in
-    sym (length-take-le _ _ (offsets_made at.Joined-cut-count (accepted at.In-Ok)))
+slice_bounds-make_stores-end c = sym (length-take-le _ _ (offsets_made (goal.at.slice_bounds-make_stores-end c).After-min-made))
 
 pub slice_bounds-values-end : goal.slice_bounds-values-end
-slice_bounds-values-end c =
-    let at = goal.at.slice_bounds-values-end c in
-    values_made at.Joined-cut-count (accepted at.In-Ok)
+slice_bounds-values-end c = values_made (goal.at.slice_bounds-values-end c).After-min-made
 
-pub slice_bounds-make_stores-end-in-Ok : goal.slice_bounds-make_stores-end-in-Ok
-slice_bounds-make_stores-end-in-Ok c =
-    let at = goal.at.slice_bounds-make_stores-end-in-Ok c in
-    sym (length-take-le _ _ (values_made at.Joined-cut-count (accepted at.In-Ok)))
+pub slice_bounds-make_stores-end-2 : goal.slice_bounds-make_stores-end-2
+slice_bounds-make_stores-end-2 c = sym (length-take-le _ _ (values_made (goal.at.slice_bounds-make_stores-end-2 c).After-min-made))
 
-pub returns-in-Err : goal.returns-in-Err
-returns-in-Err c =
+pub returns-in_err-count : goal.returns-in_err-count
+returns-in_err-count c =
     let a = c.args in
-    let e = told_refused a.plan a.text.now _ _ (lit≤ tt) (lit≤ tt) c.stores.ensures.count c.in-Err.is in
-    record { answer = rw e; stored = rw e }
+    let p = err_from_is_err_and c.from_residual.result c.from_residual.ensures.1 in
+    let e = told_refused a.plan a.text.now _ _ (lit≤ tt) (lit≤ tt) c.stores.ensures.count c.in_err-count.was in
+    record { answer = rw (p.1, p.2, e); stored = rw e }
 
-pub returns-after-cut-count : goal.returns-after-cut-count
-returns-after-cut-count c =
+pub returns : goal.returns
+returns c =
     let a = c.args in
-    let at = goal.at.returns-after-cut-count c in
-    let e = accepted at.In-Ok in
+    let e = accepted (goal.at.returns c).After-min-made in
     record {
       answer = rw e.sound;
-      stored = rw e.sound (c.make_stores.ensures ∙ cut_made e a.cut a.bank.now (made at.Joined-cut-count));
+      stored = rw e.sound (c.make_stores.ensures ∙ cut_made e a.cut a.bank.now c.min-made.ensures);
     }

@@ -1,19 +1,17 @@
 -- `records::identity::is_mask` meets its contract, by its invariant.
 -- Assumes nothing.
-use mathlib.Core.Path.{sym, ◌∙◌}
-use native.Mathlib.Omega.{arith}
+use Rattle.std.proofs.Common.{sym, ◌∙◌}
 use borrow.Author.Tests.{ne_eqb, eq-eqb}
 use Rattle.records.proofs.Places.{not_ff, next_ff, end_ff}
 use Rattle.records.proofs.identity.is_mask.Goals as goal
 
-pub returns-then-bytes-i : goal.returns-then-bytes-i
-returns-then-bytes-i c =
-    sym (not_ff c.args.bytes.now c.loop-i.i (omega arith) (ne_eqb _ _ c.if-bytes-i.true)) ∙ c.loop-i.invariant
+pub returns-then-byte : goal.returns-then-byte
+returns-then-byte c =
+    sym (not_ff c.args.bytes.now c.loop-byte.byte-index c.loop-byte-test.true (ne_eqb _ _ c.if-byte.true)) ∙ c.loop-byte.invariant
 
-pub loop-i-preserved : goal.loop-i-preserved
-loop-i-preserved c =
-    sym (next_ff c.args.bytes.now c.loop-i.i (omega arith) (eq-eqb _ _ c.if-bytes-i.false)) ∙ c.loop-i.invariant
+pub loop-byte-preserved : goal.loop-byte-preserved
+loop-byte-preserved c =
+    sym (next_ff c.args.bytes.now c.loop-byte.byte-index c.loop-byte-test.true (eq-eqb _ _ c.if-byte.false)) ∙ c.loop-byte.invariant
 
 pub returns : goal.returns
-returns c =
-    sym (end_ff c.args.bytes.now c.loop-i.i (omega arith)) ∙ c.loop-i.invariant
+returns c = sym (end_ff c.args.bytes.now c.loop-byte.byte-index c.loop-byte-test.false) ∙ c.loop-byte.invariant

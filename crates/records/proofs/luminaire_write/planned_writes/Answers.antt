@@ -1,34 +1,41 @@
 -- `records::luminaire_write::planned_writes` meets its contract, by its invariant.
 -- Assumes nothing.
-use mathlib.Core.Path.{◌∙◌}
-use native.Mathlib.Omega.{arith}
-use Rattle.bus.proofs.Lists.{sets_laid}
-use Rattle.records.specs.Writes.{planned_writes, indices, lengths, all_bytes}
-use Rattle.records.proofs.Table.{table_within}
-use Rattle.records.proofs.Planned.{field_planned, counts_few, all_planned, planned_as}
+use Rattle.std.proofs.Common.{sym, ap, ◌∙◌, length, arith}
+use Rattle.records.proofs.Table.{table_length, all_fields}
+use Rattle.records.proofs.Planned.{none_next, own_next, all_planned}
 use Rattle.records.proofs.luminaire_write.planned_writes.Goals as goal
+use Rattle.records.proofs.luminaire_write.planned_writes.Goals.{in-Some, in_default}
 
-pub lay_planned-counts-requires : goal.lay_planned-counts-requires
-lay_planned-counts-requires c =
-    let s = c.loop-index.invariant in
-    (omega arith, (table_within _ s.1 c.loop-index.index _ (omega arith), (omega (arith, s.2), omega (arith, s.3))))
+pub overflow_add-used : goal.overflow_add-used
+overflow_add-used c = omega (arith, c.loop-index.invariant.few_bytes, ap length c.loop-index.invariant.table, table_length, c.len-used.ensures.few)
 
 pub loop-index-preserved : goal.loop-index-preserved
 loop-index-preserved c =
     let a = c.args in
     let s = c.loop-index.invariant in
-    let e = c.lay_planned-counts.ensures in
-    let few = counts_few a.numbers a.text_field a.text.now _ s.1 c.loop-index.index _ (omega arith) s.2 s.3 e.counts in
-    (omega arith, s.1, few.0, few.1, field_planned a.numbers a.text_field a.text.now _ s.1 c.loop-index.index _ (omega arith) s.4 (e.counts, (e.fields, (e.lens, e.bytes))))
+    let i = c.loop-index.index in
+    elim c.match-bytes_for.branch [
+      | in-Some w ↦
+          record {
+            table = s.table;
+            few_writes = omega (arith, s.few_writes, w.count-is);
+            few_bytes = omega (arith, s.few_bytes, w.used-is, w.len-used.ensures.few);
+            laid =
+                rw (w.writes-is, w.bytes-is, w.count-is, w.used-is, w.put_write.ensures, w.put_all.ensures, w.len.ensures.value, w.len-used.ensures.value, w.as_slice.ensures)
+                (own_next a.numbers a.text_field a.text.now s.table i _ c.loop-index-test.true s.laid (sym c.bytes_for.ensures ∙ w.in-Some.is));
+          }
+      | in_default w ↦
+          record {
+            table = s.table;
+            few_writes = omega (arith, s.few_writes, w.count-is);
+            few_bytes = omega (arith, s.few_bytes, w.used-is);
+            laid = rw (w.writes-is, w.bytes-is, w.count-is, w.used-is) (none_next a.numbers a.text_field a.text.now s.table i _ c.loop-index-test.true s.laid (sym c.bytes_for.ensures ∙ w.in_default.is));
+          }
+    ]
 
 pub returns : goal.returns
 returns c =
     let a = c.args in
-    let d = planned_as c.loop-index.invariant.4 (all_planned a.numbers a.text_field a.text.now c.loop-index.index (omega arith)) in
-    let ws = planned_writes a.numbers a.text_field a.text.now in
-    record {
-      count = d.writes;
-      fields = d.fields ∙ sets_laid (indices ws) a.fields.now;
-      lens = d.lens ∙ sets_laid (lengths ws) a.lens.now;
-      bytes = d.bytes ∙ sets_laid (all_bytes ws) a.bytes.now;
-    }
+    let s = c.loop-index.invariant in
+    let d = all_planned a.numbers a.text_field a.text.now (all_fields s.table c.loop-index.index c.loop-index-test.false) s.laid in
+    record { count = d.count_is; writes = d.writes; bytes = d.bytes }

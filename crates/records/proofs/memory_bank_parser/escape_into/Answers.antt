@@ -1,28 +1,23 @@
 -- `records::memory_bank_parser::escape_into` meets its contract, by its invariant.
 -- Assumes nothing.
 use native.Mathlib.Omega.{arith}
-use Rattle.records.proofs.Texts.{laid_on, stopped, no_next, all_laid}
+use lib.ListN.{length-take, length-drop}
+use Rattle.records.proofs.Texts.{within, laid_on, whole}
 use Rattle.records.proofs.memory_bank_parser.escape_into.Goals as goal
 
-pub returns-then-pushed-eq0 : goal.returns-then-pushed-eq0
-returns-then-pushed-eq0 c =
-    let pushed = c.push_next-pushed.ensures in
-    let both = stopped c.loop-i.invariant (omega arith) pushed.answer pushed.stored c.if-pushed-eq0.true in
-    record { count = both.0; stored = both.1 }
+pub slice_bounds-rest-count : goal.slice_bounds-rest-count
+slice_bounds-rest-count c = (within c.loop-pushed.invariant c.push_next.ensures.answer c.push_next.ensures.stored c.in-Some.is).1
 
-pub overflow_add-i : goal.overflow_add-i
-overflow_add-i c =
-    let pushed = c.push_next-pushed.ensures in
-    let next = laid_on c.loop-i.invariant (omega arith) pushed.answer pushed.stored c.if-pushed-eq0.false in
-    omega (arith, next.within)
+pub slice_bounds-rest-start : goal.slice_bounds-rest-start
+slice_bounds-rest-start c = (within c.loop-pushed.invariant c.push_next.ensures.answer c.push_next.ensures.stored c.in-Some.is).1
 
-pub loop-i-preserved : goal.loop-i-preserved
-loop-i-preserved c =
-    let pushed = c.push_next-pushed.ensures in
-    laid_on c.loop-i.invariant (omega arith) pushed.answer pushed.stored c.if-pushed-eq0.false
+pub loop-pushed-smaller : goal.loop-pushed-smaller
+loop-pushed-smaller c = let w = within c.loop-pushed.invariant c.push_next.ensures.answer c.push_next.ensures.stored c.in-Some.is in rw (length-take, length-drop) (omega (arith, w))
+
+pub loop-pushed-preserved : goal.loop-pushed-preserved
+loop-pushed-preserved c = laid_on c.loop-pushed.invariant c.push_next.ensures.answer c.push_next.ensures.stored c.in-Some.is
 
 pub returns : goal.returns
 returns c =
-    let l = c.loop-i.invariant in
-    let both = all_laid l (no_next l (omega arith)) in
-    record { count = both.0; stored = both.1 }
+    let all = whole c.loop-pushed.invariant c.push_next.ensures.answer c.push_next.ensures.stored c.in_default.is in
+    record { count = all.0; stored = all.1 }

@@ -1,15 +1,16 @@
--- `stores::listing::put_lines` meets its contract. The invariant: the lines of the first i stores are laid. The measure is
--- the number of stores that are left.
+-- `stores::listing::put_lines` meets its contract. The invariant: with the lines of the stores that are left, text and end are
+-- as with all.
 -- Assumes nothing.
-use mathlib.Core.Path.{◌≡◌}
-use Prim.Native.Nat.{◌-◌, ◌≤◌}
-use lib.ListN.{length, take}
+use Rattle.std.specs.Prelude.{◌≡◌, ◌+◌, length}
 use lib.Seq.{sets}
 use Rattle.stores.specs.Steps.{lines}
 use Rattle.stores.proofs.listing.put_lines.Given as goal
 
-abbrev pub invariant-loop-i : goal.invariant-loop-i
-invariant-loop-i l = (l.i ≤ length l.offsets) × (l.out ≡ sets l.initial.out l.at (lines (take l.i l.offsets) (take l.i l.values)))
-
-abbrev pub decreases-loop-i : goal.decreases-loop-i
-decreases-loop-i l = length l.offsets - l.i
+abbrev pub invariant-loop-offset : goal.invariant-loop-offset
+invariant-loop-offset l =
+    let left = lines l.offset-iterator.a.rest.now l.offset-iterator.b.rest.now in
+    let all = lines l.offsets l.values in
+    record {
+      end : l.end + length left ≡ l.at + length all;
+      text : sets l.out l.end left ≡ sets l.initial.out l.at all;
+    }

@@ -1,32 +1,35 @@
--- `bank::read_out::ReadOut::wanting` meets its contract, by the refusal that was found.
+-- `bank::read_out::ReadOut::wanting` meets its contract, by what was tested.
 -- Assumes nothing.
-use mathlib.Core.Path.{◌≡◌, sym, ap, ◌∙◌}
-use mathlib.Core.Option.{none}
+use Rattle.std.proofs.Common.{◌≡◌, sym, ap, ◌∙◌, ℕ, None, Ok}
+use Rattle.std.proofs.lemmas.Result.{err_from_is_err_and}
 use Rattle.bank.specs.declared.read_out.Wanted.TheVariants.{Chunk}
 use Rattle.bank.specs.Refusal.{first_of}
 use Rattle.bank.specs.ReadOut.{want_checks, wanting}
-use Rattle.bank.proofs.Options.{told_refusal}
+use Rattle.bank.proofs.Checks.{told_err, told_ok}
 use Rattle.bank.proofs.Reading.{valid}
 use Rattle.bank.proofs.read_out.ReadOut.wanting.Goals as goal
-use Rattle.bank.proofs.read_out.ReadOut.wanting.Goals.{In-None}
+use Rattle.bank.proofs.read_out.ReadOut.wanting.Goals.{In_ok-check}
 
 -- the read-out and the budget are not refused
-sound : (c : In-None) → (let a = c.args in first_of (want_checks a.self a.budget) ≡ none)
-sound c = told_refusal _ c.refusal.ensures c.in-None.is
+sound : (c : In_ok-check) → (let a = c.args in first_of (want_checks a.self a.budget) ≡ None)
+sound c = told_ok _ (sym c.check.ensures ∙ c.in_ok-check.was)
+
+pub returns-in_err-check : goal.returns-in_err-check
+unfolding wanting
+returns-in_err-check c =
+    let a = c.args in
+    let p = err_from_is_err_and c.from_residual.result c.from_residual.ensures.1 in
+    rw (p.1, p.2, told_err (want_checks a.self a.budget) (sym c.check.ensures ∙ c.in_err-check.was))
 
 pub returns-then-done : goal.returns-then-done
 unfolding wanting
-returns-then-done c = rw (sound (goal.at.returns-then-done c).In-None, sym c.done.ensures ∙ c.if-done.true)
+returns-then-done c = rw (sound (goal.at.returns-then-done c).In_ok-check, sym c.done.ensures ∙ c.if-done.true)
 
-pub overflow_sub-self : goal.overflow_sub-self
-overflow_sub-self c =
+pub overflow_sub-left : goal.overflow_sub-left
+overflow_sub-left c =
     let a = c.args in
-    (valid a.self a.budget (sound (goal.at.overflow_sub-self c).In-None)).ahead
+    (valid a.self a.budget (sound (goal.at.overflow_sub-left c).In_ok-check)).ahead
 
-pub returns-in-Some : goal.returns-in-Some
+pub returns : goal.returns
 unfolding wanting
-returns-in-Some c = rw (told_refusal (first_of (want_checks c.args.self c.args.budget)) c.refusal.ensures c.in-Some.is)
-
-pub returns-else-done : goal.returns-else-done
-unfolding wanting
-returns-else-done c = rw (sound (goal.at.returns-else-done c).In-None, sym c.done.ensures ∙ c.if-done.false) (ap Chunk c.chunk_len.ensures)
+returns c = rw (sound (goal.at.returns c).In_ok-check, sym c.done.ensures ∙ c.if-done.false) (ap (λ (n : ℕ). Ok (Chunk n)) c.chunk_len.ensures)

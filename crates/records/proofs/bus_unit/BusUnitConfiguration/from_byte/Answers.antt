@@ -1,7 +1,7 @@
 -- `records::bus_unit::BusUnitConfiguration::from_byte` meets its contract, range by range.
 -- Assumes nothing.
+use Rattle.std.specs.Prelude.{None}
 use mathlib.Core.Path.{◌≡◌}
-use mathlib.Core.Option.{none}
 use Prim.Native.Nat.{ℕ}
 use native.Mathlib.Omega.{arith}
 use borrow.Author.Tests.{ne_eqb, le-leb, lt-leb}
@@ -10,7 +10,7 @@ use Rattle.records.specs.BusUnit.{from_byte, emergency}
 use Rattle.records.proofs.bus_unit.BusUnitConfiguration.from_byte.Goals as goal
 
 -- beside the four types of emergency gear
-no_gear : (raw : ℕ) → (raw ≡ 9 → ⊥) → (raw ≡ 10 → ⊥) → (raw ≡ 11 → ⊥) → (raw ≡ 12 → ⊥) → emergency raw ≡ none
+no_gear : (raw : ℕ) → (raw ≡ 9 → ⊥) → (raw ≡ 10 → ⊥) → (raw ≡ 11 → ⊥) → (raw ≡ 12 → ⊥) → emergency raw ≡ None
 unfolding emergency first_with
 no_gear raw a b c d = rw (ne_eqb raw 9 a, ne_eqb raw 10 b, ne_eqb raw 11 c, ne_eqb raw 12 d)
 

@@ -1,12 +1,8 @@
 -- `records::bus_unit::ImplementedParts::parts` meets its contract. The invariant: the parts of the bits below one are stored.
 -- The measure is the number of bits that are left.
 -- Assumes nothing.
-use Prim.Native.Nat.{◌-◌, ◌≤◌}
 use Rattle.records.proofs.Parts.{Stored}
 use Rattle.records.proofs.bus_unit.ImplementedParts.parts.Given as goal
 
 abbrev pub invariant-loop-bit : goal.invariant-loop-bit
-invariant-loop-bit l = (l.bit ≤ 5) × Stored l.self.0 l.initial.out l.out l.count l.bit
-
-abbrev pub decreases-loop-bit : goal.decreases-loop-bit
-decreases-loop-bit l = 5 - l.bit
+invariant-loop-bit l = Stored l.self.0 l.initial.out l.out l.count l.bit

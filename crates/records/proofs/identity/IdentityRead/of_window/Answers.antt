@@ -1,7 +1,7 @@
 -- `records::identity::IdentityRead::of_window` meets its contract, by the three parts of the window.
 -- Assumes nothing.
+use Rattle.std.specs.Prelude.{Some}
 use mathlib.Core.Path.{◌≡◌, sym, ◌∙◌}
-use mathlib.Core.Option.{some, bind}
 use native.Mathlib.Omega.{arith}
 use lib.ListN.{length-take, length-drop}
 use Rattle.bus.proofs.Number.{number_few}
@@ -13,13 +13,12 @@ use Rattle.records.proofs.identity.IdentityRead.of_window.Goals.{After-within-in
 
 -- what the window says is what its three parts say
 parts : (c : After-within-index)
-    → (of_window c.args.window.now ≡ known_if (identity_of (unless_ff (some c.within-gtin.result.now)) (unless_ff (some c.within-number.result.now)) (unless_ff (some c.within-index.result.now))))
+    → (of_window c.args.window.now ≡ known_if (identity_of (unless_ff (Some c.within-gtin.result.now)) (unless_ff (Some c.within-number.result.now)) (unless_ff (Some c.within-index.result.now))))
 parts c =
     in_window c.args.window.now (omega arith)
     c.within-gtin.ensures c.within-number.ensures c.within-index.ensures
 
 pub returns-then-is_mask : goal.returns-then-is_mask
-unfolding bind
 returns-then-is_mask c =
     let all = parts (goal.at.returns-then-is_mask c).After-within-index in
     elim c.then-is_mask.branch [
@@ -39,7 +38,6 @@ pub bounds-index-0 : goal.bounds-index-0
 bounds-index-0 c = rw (c.within-index.ensures, length-take, length-drop) (omega arith)
 
 pub returns : goal.returns
-unfolding bind
 returns c =
     let gtin = number_few c.within-gtin.result.now (rw (c.within-gtin.ensures, length-take) (omega arith)) in
     let number = number_few c.within-number.result.now (rw (c.within-number.ensures, length-take) (omega arith)) in

@@ -1,0 +1,8 @@
+-- `records::luminaire_write::stages_of` meets its contract: the offsets of a field of the table are bytes.
+-- Assumes nothing.
+use native.Mathlib.Omega.{arith}
+use Rattle.records.proofs.Table.{within_bank}
+use Rattle.records.proofs.luminaire_write.stages_of.Goals as goal
+
+pub overflow_add-field : goal.overflow_add-field
+overflow_add-field c = omega (arith, (within_bank c.args.index c.requires).starts)
