@@ -3,6 +3,7 @@
 use mathlib.Core.Path.{◌≡◌, refl, ap, ◌∙◌}
 use mathlib.Core.List.{List, [], ◌∷◌, map}
 use Prim.Native.Nat.{ℕ}
+use native.Mathlib.Omega.{arith}
 use lib.Seq.{sets}
 use Rattle.bus.specs.Value.{laid_into}
 use Rattle.bus.proofs.Lists.{sets_laid}
@@ -10,7 +11,7 @@ use Rattle.bank.specs.declared.call_list.Answer.{Answer}
 use Rattle.bank.specs.declared.call_list.Call.{Call as LentCall}
 use Rattle.bank.specs.declared.call_list.Call as lent
 use Rattle.bank.specs.Chunk.{chunk_len}
-use Rattle.bank.specs.Calls.{Call, want, accept, State, after, answers_of, calls_in, EveryListLaid}
+use Rattle.bank.specs.Calls.{Call, want, accept, State, after, answers_of, calls_in, Layable, AllHaveBits, EveryListLaid}
 
 -- a call as it is lent
 abbrev lent_call : Call → LentCall
@@ -22,8 +23,13 @@ lent_calls [] = refl
 lent_calls (want budget ∷ cs) = ap (λ (rest : List Call). want budget ∷ rest) (lent_calls cs)
 lent_calls (accept budget bytes ∷ cs) = ap (λ (rest : List Call). accept budget bytes ∷ rest) (lent_calls cs)
 
+fitting : (calls : List Call) → Layable calls → AllHaveBits (map lent_call calls)
+fitting [] l = tt
+fitting (want budget ∷ cs) l = (omega (arith, l.0), fitting cs l.1)
+fitting (accept budget bytes ∷ cs) l = (omega (arith, l.0), fitting cs l.1)
+
 pub every_list_laid : EveryListLaid
-every_list_laid calls layable = record { lent = map lent_call calls; fits = rw lent_calls layable; made = lent_calls calls }
+every_list_laid calls layable = record { lent = map lent_call calls; fits = fitting calls layable; made = lent_calls calls }
 
 -- ---- a run of calls
 

@@ -1,17 +1,18 @@
 -- Laws of printable texts: the first byte that is not printable, and the first byte of a printable text.
 -- Assumes nothing.
 use Rattle.std.proofs.lemmas.Option.{same_Some}
-use Rattle.std.specs.Prelude.{None, Option, Some, option_map, slice_get}
-use mathlib.Core.Path.{◌≡◌, refl, sym, ap, subst}
+use Rattle.std.specs.Prelude.{None, Option, Some, not, option_map, position, slice_get}
+use Rattle.std.specs.List.{position_from}
+use Rattle.std.proofs.lemmas.Iterator.Adapters.{position_from-zero}
+use mathlib.Core.Path.{◌≡◌, refl, sym, ap, subst, ◌∙◌}
 use mathlib.Core.Bool.{true, false}
 use mathlib.Core.List.{List, [], ◌∷◌}
 use Prim.Native.Nat.{ℕ, zero, suc, ◌+◌, ◌≤◌, ◌<◌}
 use native.Mathlib.Nat.{le_of_suc-le-suc, not-suc-le-zero}
-use native.Mathlib.Numerals.{add-one}
 use native.Mathlib.Omega.{arith}
 use borrow.Author.Tests.{le-leb, leb-true, leb-false}
 use lib.Dec.{leb}
-use lib.ListN.{length, get_or, take}
+use lib.ListN.{length}
 use Rattle.bus.proofs.Tests.{first_true, second_true, by_test}
 use Rattle.bus.proofs.Lists.{no_element}
 use Rattle.bank.specs.Fields.{is_printable, printable, first_not_printable}
@@ -41,25 +42,25 @@ rest_has_none b bs e =
     (λ t. (t, none_behind (first_not_printable bs) (rw t at e)))
     (λ t. no_element (sym (rw t at e)))
 
--- a scan that has found none before index i finds the byte at i, goes past it, or ends
-pub found : (bytes : List ℕ) (i : ℕ) → first_not_printable (take i bytes) ≡ None → i < length bytes → is_printable (get_or bytes i 0) ≡ false → first_not_printable bytes ≡ Some i
+-- a search along the text gives that byte
+pub searched : (bytes : List ℕ) → position (λ b. not (is_printable b)) bytes ≡ first_not_printable bytes
 unfolding first_not_printable
-found [] i e h b = absurd (not-suc-le-zero h)
-found (x ∷ xs) zero e h b = rw b
-found (x ∷ xs) (suc i) e h b =
-    let r = rest_has_none x (take i xs) e in
-    rw r.0 (ap (option_map suc) (found xs i r.1 (le_of_suc-le-suc h) b))
+searched bytes = position_from-zero (λ b. not (is_printable b)) bytes ∙ from 0 bytes ∙ as_is (first_not_printable bytes)
+  where
+    later : (i : ℕ) (o : Option ℕ) → option_map (λ k. i + 1 + k) o ≡ option_map (λ k. i + k) (option_map suc o)
+    later i None = refl
+    later i (Some k) = ap Some (omega arith)
 
-passed_suc : (bytes : List ℕ) (i : ℕ) → first_not_printable (take i bytes) ≡ None → i < length bytes → is_printable (get_or bytes i 0) ≡ true → first_not_printable (take (suc i) bytes) ≡ None
-unfolding first_not_printable
-passed_suc [] i e h b = absurd (not-suc-le-zero h)
-passed_suc (x ∷ xs) zero e h b = rw b
-passed_suc (x ∷ xs) (suc i) e h b =
-    let r = rest_has_none x (take i xs) e in
-    rw r.0 (ap (option_map suc) (passed_suc xs i r.1 (le_of_suc-le-suc h) b))
+    as_is : (o : Option ℕ) → option_map (λ k. 0 + k) o ≡ o
+    as_is None = refl
+    as_is (Some k) = ap Some (omega arith)
 
-pub passed_byte : (bytes : List ℕ) (i : ℕ) → first_not_printable (take i bytes) ≡ None → i < length bytes → is_printable (get_or bytes i 0) ≡ true → first_not_printable (take (i + 1) bytes) ≡ None
-passed_byte bytes i e h b = rw add-one (passed_suc bytes i e h b)
+    from : (i : ℕ) (bs : List ℕ) → position_from (λ b. not (is_printable b)) i bs ≡ option_map (λ k. i + k) (first_not_printable bs)
+    from i [] = refl
+    from i (b ∷ bs) =
+        by_test (is_printable b)
+        (λ t. rw t (from (i + 1) bs ∙ later i (first_not_printable bs)))
+        (λ t. rw t (ap Some (omega arith)))
 
 -- a text of printable bytes begins with one
 pub head_printable : (b : ℕ) (bs : List ℕ) → printable (b ∷ bs) ≡ true → (0x20 ≤ b) × (b ≤ 0x7E) × (printable bs ≡ true)

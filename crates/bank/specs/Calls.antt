@@ -1,7 +1,7 @@
 -- 01, "A cut plan, read back": the calls of a read-out, one after the other, and what holds of every list of them, for
 -- any chunk rule that has the bounds.
 -- Assumes nothing.
-use Rattle.std.specs.Prelude.{◌≡◌, List, [], ◌∷◌, ◌++◌, map, ℕ, ◌+◌, ◌≤◌, length, take, drop, Err, Ok, Result}
+use Rattle.std.specs.Prelude.{◌≡◌, List, [], ◌∷◌, ◌++◌, map, ℕ, ◌+◌, ◌^◌, ◌≤◌, ◌<◌, length, take, drop, Err, Ok, Result}
 use Rattle.bank.specs.declared.refusal.Refusal.{Refusal}
 use Rattle.bank.specs.declared.call_list.Call.{Call as LentCall}
 use Rattle.bank.specs.declared.call_list.Call as lent
@@ -130,10 +130,19 @@ Layable [] = Unit {0}
 Layable (want budget ∷ cs) = (budget ≤ 0xFFFF) × Layable cs
 Layable (accept budget bytes ∷ cs) = (budget ≤ 0xFFFF) × Layable cs
 
--- Every such list of calls can be lent, with budgets of 16 bits, and is then the one that is made.
+-- the bits that a lent call has for its budget
+abbrev pub HasBits : LentCall → Type 0
+HasBits (lent.TheVariants.Wanting budget) = budget < 2 ^ 16
+HasBits (lent.TheVariants.Accepting budget chunk) = budget < 2 ^ 16
+
+abbrev pub AllHaveBits : List LentCall → Type 0
+AllHaveBits [] = Unit {0}
+AllHaveBits (c ∷ cs) = HasBits c × AllHaveBits cs
+
+-- Every such list of calls can be lent, and is then the one that is made.
 pub record Laid (calls : List Call) : Type 0 where
   pub lent : List LentCall
-  pub fits : Layable (calls_in lent)
+  pub fits : AllHaveBits lent
   pub made : calls_in lent ≡ calls
 
 abbrev pub EveryListLaid : Type 0

@@ -8,12 +8,13 @@ use bus::{BankField, bank_field_map};
 fn fields_from(fields: &[BankField], offset: u16) -> &[BankField]
     ensures { result.now ≡ fields_from offset fields.now }
 {
-    for (i, field) in fields.iter().enumerate() {
-        if field.offset as u16 == offset {
-            return &fields[i..];
-        }
+    match fields
+        .iter()
+        .position(|field| field.offset as u16 == offset)
+    {
+        Some(i) => &fields[i..],
+        None => &[],
     }
-    &[]
 }
 
 // The bytes that are taken, with those of further fields while they fit whole.

@@ -16,7 +16,7 @@ use bus::part251::{
 };
 use bus::{LuminaireFormat, number_of};
 
-#[derive(Clone, Copy)]
+#[derive(Clone, Copy, PartialEq, Eq)]
 pub enum NumberRule {
     Year,
     Week,
@@ -53,12 +53,12 @@ fn is_distribution_type(raw: u64, format: LuminaireFormat) -> bool
 {
     match raw {
         0..=5 => true,
-        6 | 253 | 254 => 4 <= format.content_format_id(),
+        6 | 253 | 254 => LuminaireFormat::V4 <= format,
         _ => false,
     }
 }
 
-#[derive(Clone, Copy)]
+#[derive(Clone, Copy, PartialEq, Eq)]
 pub enum LuminaireTextField {
     LuminaireColour,
     LuminaireIdentification,
@@ -68,7 +68,7 @@ pub enum LuminaireTextField {
     FreeUse,
 }
 
-#[derive(Clone, Copy)]
+#[derive(Clone, Copy, PartialEq, Eq)]
 pub enum FieldKind {
     LayoutId,
     Number { patch: u16, rule: NumberRule },
@@ -261,7 +261,7 @@ impl LuminaireField {
     fn is_layout_id(self) -> bool
         ensures { result ≡ read_only self.kind }
     {
-        matches!(self.kind, FieldKind::LayoutId)
+        self.kind == FieldKind::LayoutId
     }
 
     // In sixteen bits, since a field that is not of the table may end past 255.
@@ -274,7 +274,7 @@ impl LuminaireField {
     pub fn in_format(self, format: LuminaireFormat) -> bool
         ensures { result ≡ from_format self.since format }
     {
-        self.since.content_format_id() <= format.content_format_id()
+        self.since <= format
     }
 
     pub fn ends_by(self, last_offset: u8) -> bool
@@ -341,12 +341,7 @@ fn is_printable(byte: u8) -> bool
 fn first_not_printable(text: &[u8]) -> Option<usize>
     ensures { result ≡ first_not_printable text.now }
 {
-    for (i, byte) in text.iter().enumerate() {
-        if !is_printable(*byte) {
-            return Some(i);
-        }
-    }
-    None
+    text.iter().position(|byte| !is_printable(*byte))
 }
 
 // What a header of bank 1 tells, as far as it was read.
@@ -373,7 +368,7 @@ impl Bank1Layout {
     fn is_missing(self) -> bool
         ensures { result ≡ missing self.implemented }
     {
-        matches!(self.implemented, Some(false))
+        self.implemented == Some(false)
     }
 
     fn format(self) -> Option<LuminaireFormat>

@@ -14,6 +14,7 @@ fn is_shown(rule: NumberRule, raw: u64) -> bool
     rule.shows_back(raw, LuminaireFormat::V3)
 }
 
+// The functions from here on keep the Rust's names.
 pub fn year(raw: u8) -> Option<u8>
     ensures { result ≡ shown NumberRule.Year raw }
 {

@@ -1,8 +1,8 @@
 -- Laws of lists: an element and a search of the first n elements, and a list that takes the place of another's head.
 -- Assumes nothing.
-use Rattle.std.specs.Prelude.{None, Some, slice_get}
+use Rattle.std.specs.Prelude.{None, Some, find, slice_get}
 use mathlib.Core.Path.{◌≡◌, refl, sym, ap, ◌∙◌}
-use mathlib.Core.Bool.{Bool, true, false}
+use mathlib.Core.Bool.{Bool, true}
 use mathlib.Core.List.{List, [], ◌∷◌, ◌++◌, append-nil}
 use Prim.Native.Nat.{ℕ, zero, suc, ◌+◌, ◌≤◌, ◌<◌}
 use native.Mathlib.Nat.{le_of_suc-le-suc, not-suc-le-zero, le_of_lt}
@@ -37,19 +37,11 @@ module _ {A : Type 0} where
   element_in (x ∷ xs) zero d h = refl
   element_in (x ∷ xs) (suc i) d h = element_in xs i d (le_of_suc-le-suc h)
 
-  -- a search there, from element i on
-  module _ (p : A → Bool) (xs : List A) (i : ℕ) (d : A) where
-    pub found : i < length xs → p (get_or xs i d) ≡ true → first_with p (drop i xs) ≡ Some (get_or xs i d)
-    unfolding first_with
-    found h e = rw (drop-cons xs i d h, e)
-
-    pub passed : i < length xs → p (get_or xs i d) ≡ false → first_with p (drop i xs) ≡ first_with p (drop (i + 1) xs)
-    unfolding first_with
-    passed h e = rw (drop-cons xs i d h, e, add-one)
-
-  pub ended : (p : A → Bool) (xs : List A) (i : ℕ) → length xs ≤ i → first_with p (drop i xs) ≡ None
+  -- std's `find` gives the first element that passes
+  pub find_first : (p : A → Bool) (xs : List A) → find p xs ≡ first_with p xs
   unfolding first_with
-  ended p xs i h = rw (drop_of_length-le xs {i = i} h)
+  find_first p [] = refl
+  find_first p (x ∷ xs) = rw (find_first p xs)
 
   -- what is left from element i on, and how long it is
   pub left_at : (xs : List A) (i : ℕ) (d : A) → i < length xs → drop i xs ≡ get_or xs i d ∷ drop (i + 1) xs

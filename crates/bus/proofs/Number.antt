@@ -2,8 +2,8 @@
 -- Assumes nothing.
 use mathlib.Core.Path.{◌≡◌, refl, sym, ap, ◌∙◌}
 use mathlib.Core.List.{List, [], ◌∷◌, ◌++◌}
-use Prim.Native.Nat.{ℕ, zero, suc, ◌+◌, ◌-◌, ◌*◌, ◌/◌, ◌%◌, ◌^◌, ◌≤◌, ◌<◌}
-use native.Mathlib.Nat.{mul_assoc, le_of_suc-le-suc, not-suc-le-zero}
+use Prim.Native.Nat.{ℕ, zero, suc, ◌+◌, ◌-◌, ◌*◌, ◌%◌, ◌^◌, ◌≤◌, ◌<◌}
+use native.Mathlib.Nat.{mul_assoc}
 use native.Mathlib.Numerals.{add-one}
 use native.Mathlib.Omega.{arith}
 use lib.ListN.{length, get_or, take, drop, length-append, length-take}
@@ -47,16 +47,6 @@ pub length_low_bytes : (n v : ℕ) → length (low_bytes n v) ≡ n
 unfolding low_bytes
 length_low_bytes zero v = refl
 length_low_bytes (suc n) v = ap suc (length_low_bytes n v)
-
-pub low_bytes_at : (n v i : ℕ) → i < n → get_or (low_bytes n v) i 0 ≡ v / 2 ^ (8 * (n - 1 - i)) % 256
-unfolding low_bytes
-low_bytes_at zero v i h = absurd (not-suc-le-zero h)
-low_bytes_at (suc n) v zero h =
-    let e : n ≡ suc n - 1 - 0 = omega arith in
-    ap (λ (k : ℕ). v / 2 ^ (8 * k) % 256) e
-low_bytes_at (suc n) v (suc i) h =
-    let e : n - 1 - i ≡ suc n - 1 - suc i = omega arith in
-    low_bytes_at n v i (le_of_suc-le-suc h) ∙ ap (λ (k : ℕ). v / 2 ^ (8 * k) % 256) e
 
 -- the low bytes make the remainder by their range
 pub number_low_bytes : (n v : ℕ) → number (low_bytes n v) ≡ v % 2 ^ (8 * n)

@@ -348,12 +348,10 @@ pub fn bank_field_map(bank: u8) -> &'static [BankField]
 pub fn field_containing(bank: u8, offset: u16) -> Option<BankField>
     ensures { result ≡ field_containing bank offset }
 {
-    for field in bank_field_map(bank) {
-        if field.holds(offset) {
-            return Some(*field);
-        }
-    }
-    None
+    bank_field_map(bank)
+        .iter()
+        .find(|field| field.holds(offset))
+        .copied()
 }
 
 // A part of a bank that starts at the offset, or ends before it, cuts no field.

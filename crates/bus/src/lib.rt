@@ -168,9 +168,8 @@ pub fn classify(raw: u64, width: ValueWidth) -> BankValue
 pub fn encode_value(raw: u64, width: ValueWidth, out: &mut [u8])
     ensures { out.new ≡ encoded width raw out.old }
 {
-    let n = width.bytes();
-    for i in 0..usize::min(n, out.len()) {
-        let shift = 8 * (n - 1 - i);
-        out[i] = ((raw >> shift) % 256) as u8;
-    }
+    let bytes = raw.to_be_bytes();
+    let low = &bytes[8 - width.bytes()..];
+    let n = usize::min(low.len(), out.len());
+    out[..n].copy_from_slice(&low[..n]);
 }

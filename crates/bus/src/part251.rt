@@ -13,7 +13,7 @@ pub const BANK1_BASE_LAST_OFFSET: u8 = 0x10;
 
 pub const BANK1_FORMAT_GATE_LAST_OFFSET: u8 = 0x12;
 
-#[derive(Clone, Copy)]
+#[derive(Clone, Copy, PartialEq, Eq, PartialOrd, Ord)]
 pub enum LuminaireFormat {
     V3,
     V4,
@@ -58,14 +58,14 @@ impl LuminaireFormat {
     pub fn has_light_distribution(self) -> bool
         ensures { result ≡ has_light_distribution self }
     {
-        4 <= self.content_format_id()
+        LuminaireFormat::V4 <= self
     }
 
     // From format 5 on.
     pub fn has_extended_block(self) -> bool
         ensures { result ≡ has_extended_block self }
     {
-        5 <= self.content_format_id()
+        LuminaireFormat::V5 <= self
     }
 }
 

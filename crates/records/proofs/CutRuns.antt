@@ -2,70 +2,55 @@
 -- Assumes nothing.
 use Rattle.std.specs.Prelude.{Err, None, Ok, Option, Result, Some, slice_get}
 use mathlib.Core.Path.{◌≡◌, refl, sym, ap, ◌∙◌}
-use mathlib.Core.Bool.{Bool, ◌||◌}
 use mathlib.Core.List.{List, [], ◌∷◌}
 use Prim.Native.Nat.{ℕ, suc, ◌≤◌, ◌<◌}
 use native.Mathlib.Omega.{arith}
 use borrow.Author.Tests.{le-ltb}
-use lib.Dec.{ltb}
 use lib.ListN.{length, take, length-append}
 use Rattle.bus.specs.Value.{laid_into}
-use Rattle.bus.proofs.Lists.{no_element, laid_at, laid_behind}
-use Rattle.bus.proofs.Tests.{by_test}
+use Rattle.bus.proofs.Lists.{laid_at, laid_behind}
 use Rattle.bank.specs.declared.refusal.Refusal.{Refusal}
 use Rattle.bank.specs.declared.read_out.ReadOut.{ReadOut}
 use Rattle.bank.specs.declared.luminaire_write.Bank1Layout.{Bank1Layout}
 use Rattle.bank.specs.declared.call_list.Answer.{Answer}
-use Rattle.bank.specs.Refusal.{first_of, checked, tested}
+use Rattle.bank.specs.Refusal.{Check, first_of, checked, tested}
 use Rattle.bank.specs.Fields.{from_header}
 use Rattle.bank.specs.Chunk.{chunk_len}
-use Rattle.bank.specs.ReadOut.{fresh, starting}
+use Rattle.bank.specs.ReadOut.{fresh, invalid, starting}
 use Rattle.bank.specs.Calls.{Call, State, state_of, step, after, answers_of}
-use Rattle.bank.proofs.Checks.{not_both, told_ok, told_err}
+use Rattle.bank.proofs.Checks.{refused_first, passed_first, not_both, told_ok, told_err}
 use Rattle.records.specs.declared.luminaire_write.LuminaireNumbers.{LuminaireNumbers}
 use Rattle.records.specs.declared.luminaire_write.Plan.{Plan}
 use Rattle.records.specs.Plan.{plan_checks, stores_of}
 use Rattle.records.specs.Cut.{cut_bank}
 use Rattle.records.specs.Claim.{begin, CutReadsBack}
 use Rattle.records.specs.CutRun.{plan_for, run_checks, cut_of, bank_behind, read_back, buffer_behind, answers_behind, EveryRunReadsBack, RunLeavesAll, EveryRefusedRunLeavesAll}
-use Rattle.records.proofs.Stages.{some_same}
+use Rattle.records.proofs.Refusals.{answered, refused}
 use Rattle.records.proofs.Cutting.{length_stored}
 use Rattle.records.proofs.Plans.{passed_plan}
 use Rattle.records.proofs.Claim.{cut_plan_reads_back}
-
-abbrev out_in : Result ReadOut Refusal → Option ReadOut
-out_in (Ok r) = Some r
-out_in (Err e) = None
-
-abbrev refused_in : Result ReadOut Refusal → Option Refusal
-refused_in (Ok r) = None
-refused_in (Err e) = Some e
 
 module _ (numbers : LuminaireNumbers) (which : Option ℕ) (text old : List ℕ) where
   abbrev checks : Option Refusal
   checks = first_of (run_checks numbers which text old)
 
   -- what the start of the read-out tells
-  abbrev too_long : Bool
-  too_long = ltb 256 (length old) || ltb (length old) 0
+  abbrev first_checks : List Check
+  first_checks = invalid (fresh 1 (length old)) ∷ []
 
   pub start_refused : {s : (Result ReadOut Refusal)} {r : Refusal} → s ≡ starting 1 (length old) → s ≡ Err r → checks ≡ Some r
-  unfolding first_of run_checks
-  start_refused e t =
-      by_test too_long
-      (λ long. rw long (rw long at (sym (ap refused_in e) ∙ ap refused_in t)))
-      (λ short. no_element (rw short at (sym (ap refused_in e) ∙ ap refused_in t)))
+  unfolding run_checks
+  start_refused e t = refused_first first_checks _ (refused first_checks (fresh 1 (length old)) (sym e ∙ t))
 
   pub record Started (out : ReadOut) : Type 0 where
     pub is : out ≡ fresh 1 (length old)
     pub then_plan : checks ≡ first_of (plan_checks (plan_for numbers which text old) text)
 
   pub start_accepted : {s : (Result ReadOut Refusal)} {out : ReadOut} → s ≡ starting 1 (length old) → s ≡ Ok out → Started out
-  unfolding first_of run_checks
+  unfolding run_checks
   start_accepted e t =
-      by_test too_long
-      (λ long. no_element (rw long at (sym (ap out_in e) ∙ ap out_in t)))
-      (λ short. record { is = sym (some_same (rw short at (sym (ap out_in e) ∙ ap out_in t))); then_plan = rw short })
+      let told = answered first_checks (fresh 1 (length old)) (sym e ∙ t) in
+      record { is = told.1; then_plan = passed_first first_checks _ told.0 }
 
   -- the plan is that of the bank's own header
   pub same_plan : {layout : Bank1Layout} → layout ≡ from_header old → record { layout = layout; numbers = numbers; text_field = which } ≡ plan_for numbers which text old

@@ -17,8 +17,8 @@ use Rattle.bus.proofs.Lists.{no_element, sets_cons}
 use Rattle.bus.proofs.Tests.{by_test}
 use Rattle.bank.specs.declared.luminaire_write.LuminaireField.{LuminaireField}
 use Rattle.bank.specs.Fields.{field_end}
-use Rattle.records.specs.Writes.{Store, gather, single_bytes, offsets_of, values_of, Each, InField}
-use Rattle.records.specs.Cut.{stored, stored_at}
+use Rattle.records.specs.Writes.{Store, gather, single_bytes, Each, InField}
+use Rattle.records.specs.Cut.{stored}
 use Rattle.records.proofs.Gathering.{each_append, each_map, each_gather}
 use Rattle.records.proofs.Table.{Sorted}
 
@@ -277,10 +277,3 @@ in_turn g [] i j e d l = no_element e
 in_turn g (x ∷ fs) i zero e d l = absurd (not-suc-le-zero l)
 in_turn g (x ∷ fs) zero (suc j) e d l = simp length-append (omega (arith, ap (λ (f : LuminaireField). length (g 0 f)) (same_Some _ _ e)))
 in_turn g (x ∷ fs) (suc i) (suc j) e d l = simp length-append (omega (arith, in_turn (λ i. g (suc i)) fs i j e d (omega arith)))
-
--- ---- stores that stand in two slices
-
--- those of a list
-pub members_stored : (ss : List Store) (bank : List ℕ) → stored_at (offsets_of ss) (values_of ss) bank ≡ stored ss bank
-members_stored [] bank = refl
-members_stored (s ∷ ss) bank = members_stored ss (set bank s.offset s.value)

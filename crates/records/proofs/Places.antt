@@ -1,19 +1,19 @@
 -- Laws of a place: whether its bytes are all present, and what they are; and its theorems.
 -- Assumes nothing.
 use Rattle.std.proofs.lemmas.List.{drop-take}
+use Rattle.std.specs.List.{list_all}
 use Rattle.std.proofs.lemmas.Option.{same_Some}
 use Rattle.std.specs.Prelude.{None, Some}
-use mathlib.Core.Path.{◌≡◌, sym, ap, ◌∙◌}
-use mathlib.Core.Bool.{true, false}
-use mathlib.Core.List.{List}
+use mathlib.Core.Path.{◌≡◌, refl, sym, ap, ◌∙◌}
+use mathlib.Core.Bool.{Bool, true, false, ◌&&◌}
+use mathlib.Core.List.{List, [], ◌∷◌}
 use Prim.Native.Nat.{ℕ, ◌+◌, ◌-◌, ◌≤◌, ◌<◌, min, zero-le}
 use native.Mathlib.Nat.{sub-zero}
-use native.Mathlib.Numerals.{add-one}
 use native.Mathlib.Omega.{arith}
 use borrow.Author.Tests.{le-leb, lt-leb, leb-true}
 use lib.Dec.{eqb, leb}
-use lib.ListN.{length, get_or, take, drop, drop_of_length-le, length-take, length-drop}
-use lib.Seq.{drop-cons, take-take, drop-drop}
+use lib.ListN.{length, take, drop, length-take, length-drop}
+use lib.Seq.{take-take, drop-drop}
 use Rattle.bus.specs.Number.{number}
 use Rattle.bus.specs.Value.{classified}
 use Rattle.bus.proofs.Tests.{by_test, no_yes}
@@ -29,19 +29,10 @@ module _ (start : ℕ) (bytes : List ℕ) (o n : ℕ) where
   pub whole : start ≤ o → o - start + n ≤ length bytes → field_at start bytes o n ≡ Some (take n (drop (o - start) bytes))
   whole h k = rw (le-leb start o h, le-leb (o - start + n) (length bytes) k)
 
--- bytes that are all FF, from byte i on
-module _ (bytes : List ℕ) (i : ℕ) where
-  pub not_ff : i < length bytes → eqb (get_or bytes i 0) 0xFF ≡ false → all_ff (drop i bytes) ≡ false
-  unfolding all_ff
-  not_ff h e = rw (drop-cons bytes i 0 h, e)
-
-  pub next_ff : i < length bytes → eqb (get_or bytes i 0) 0xFF ≡ true → all_ff (drop i bytes) ≡ all_ff (drop (i + 1) bytes)
-  unfolding all_ff
-  next_ff h e = rw (drop-cons bytes i 0 h, e, add-one)
-
-  pub end_ff : length bytes ≤ i → all_ff (drop i bytes) ≡ true
-  unfolding all_ff
-  end_ff h = rw (drop_of_length-le bytes {i = i} h)
+pub every_ff : (bytes : List ℕ) → list_all (λ b. eqb b 0xFF) bytes ≡ all_ff bytes
+unfolding all_ff
+every_ff [] = refl
+every_ff (b ∷ bs) = ap (λ (r : Bool). eqb b 0xFF && r) (every_ff bs)
 
 -- what a field that is there says of its place, and of its bytes
 pub record There (start : ℕ) (bytes : List ℕ) (o n : ℕ) : Type 0 where

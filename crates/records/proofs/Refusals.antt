@@ -10,11 +10,11 @@ use Rattle.bus.specs.declared.part251.LuminaireFormat.{LuminaireFormat}
 use Rattle.bank.specs.declared.refusal.Refusal.{Refusal}
 use Rattle.bank.specs.declared.luminaire_write.LuminaireField.{LuminaireField}
 use Rattle.bank.specs.declared.luminaire_write.Bank1Layout.{Bank1Layout}
-use Rattle.bank.specs.Refusal.{Check, ◌when◌, first_of}
+use Rattle.bank.specs.Refusal.{Check, ◌when◌, first_of, checked}
 use Rattle.bank.specs.Fields.{luminaire_fields, accepts_number}
 use Rattle.bank.specs.Writable.{format_in, write_checks, check_writable}
 use Rattle.bus.proofs.Lists.{no_element}
-use Rattle.bank.proofs.Checks.{refused_first, passed_first}
+use Rattle.bank.proofs.Checks.{refused_first, passed_first, not_both}
 use Rattle.bank.proofs.Writable.{in_format_lem}
 use Rattle.records.specs.Writes.{gather}
 use Rattle.records.specs.Plan.{rejects}
@@ -33,6 +33,26 @@ alone_passed r e = rw e
 pub alone_refused : (r : Refusal) {b : Bool} → b ≡ true → first_of (r when b ∷ []) ≡ Some r
 unfolding first_of
 alone_refused r e = rw e
+
+-- a call that answers passed its checks, and a refusal is theirs
+module _ {A : Type 0} (cs : List Check) (x : A) where
+  pub answered : {y : A} → checked cs Err (Ok x) ≡ Ok y → (first_of cs ≡ None) × (y ≡ x)
+  answered {y} e = go (first_of cs) refl
+    where
+      go : (o : Option Refusal) → first_of cs ≡ o → (first_of cs ≡ None) × (y ≡ x)
+      go (Some r) f = not_both (sym (rw f at e))
+      go None f =
+          let same : ◌≡◌ {A = Result A Refusal} (Ok x) (Ok y) = rw f at e in
+          (f, cc)
+
+  pub refused : {r : Refusal} → checked cs Err (Ok x) ≡ Err r → first_of cs ≡ Some r
+  refused {r} e = go (first_of cs) refl
+    where
+      go : (o : Option Refusal) → first_of cs ≡ o → first_of cs ≡ Some r
+      go None f = not_both {x = x} (rw f at e)
+      go (Some q) f =
+          let same : ◌≡◌ {A = Result A Refusal} (Err q) (Err r) = rw f at e in
+          f ∙ cc
 
 module _ (l : Bank1Layout) (f : LuminaireField) where
   -- what `check_writable` tells of its checks

@@ -3,29 +3,27 @@
 use Rattle.std.specs.Prelude.{Err, None, Ok, Option, Result, Some}
 use mathlib.Core.Path.{◌≡◌, refl, sym, ap, ◌∙◌, subst}
 use mathlib.Core.List.{List, [], ◌∷◌, ◌++◌, append-nil, map}
-use Prim.Native.Nat.{ℕ, zero, suc, ◌+◌, ◌≤◌, ◌<◌, min}
+use Prim.Native.Nat.{ℕ, suc, ◌+◌, ◌≤◌, ◌<◌}
 use native.Mathlib.Omega.{arith}
 use lib.ListN.{get_or, length, take, length-append, length-take}
-use lib.Seq.{take-take}
 use Rattle.bus.specs.Value.{laid_into}
-use Rattle.bus.proofs.Lists.{no_element, sets_laid}
+use Rattle.bus.proofs.Lists.{sets_laid}
 use Rattle.bank.specs.declared.refusal.Refusal.{Refusal}
 use Rattle.bank.specs.declared.luminaire_write.LuminaireField.{LuminaireField}
 use Rattle.bank.specs.Refusal.{first_of}
 use Rattle.bank.specs.Fields.{luminaire_fields}
 use Rattle.bank.specs.Calls.{sum}
-use Rattle.std.proofs.lemmas.List.{take_min}
+use Rattle.bank.proofs.Checks.{refused_first, none_first, not_both}
 use Rattle.records.specs.declared.luminaire_write.LuminaireNumbers.{LuminaireNumbers}
 use Rattle.records.specs.declared.luminaire_write.Plan.{Plan}
 use Rattle.records.specs.Writes.{gather, bytes_for, written, write_stores, Store, offsets_of, values_of, stores_at, plan_stores}
-use Rattle.records.specs.Plan.{plan_checks, stores_of, planned, offsets_after, values_after}
-use Rattle.records.specs.Cut.{stored, cut_bank, stored_at}
+use Rattle.records.specs.Plan.{plan_checks, stores_of, lay_checks, planned, offsets_after, values_after}
 use Rattle.records.proofs.Laying.{front_laid}
 use Rattle.records.proofs.Table.{by_field, next_field, field_room}
-use Rattle.records.proofs.Stages.{bytes_fit, some_same, stores_few, stores_of_write, stores_of_none}
+use Rattle.records.proofs.Stages.{bytes_fit, stores_few, stores_of_write, stores_of_none}
 use Rattle.records.proofs.Stores.{offsets_count, values_count}
-use Rattle.records.proofs.Plans.{plan_refused, plan_accepted}
-use Rattle.records.proofs.Cutting.{members_stored}
+use Rattle.records.proofs.Refusals.{answered, refused}
+use Rattle.records.proofs.Plans.{plan_accepted}
 
 -- so many stores at most
 abbrev most_of : List LuminaireField → ℕ
@@ -74,14 +72,6 @@ front_is xs out {n} e h =
     ∙ ap (take (length xs)) (sym (sets_laid xs out))
     ∙ front_laid xs out (omega (arith, e, h))
 
-abbrev count_in : Result ℕ Refusal → Option ℕ
-count_in (Ok n) = Some n
-count_in (Err r) = None
-
-abbrev refusal_in : Result ℕ Refusal → Option Refusal
-refusal_in (Ok n) = None
-refusal_in (Err r) = Some r
-
 -- an accepted plan: how many stores there are, and where they stand
 pub record AcceptedPlan (p : Plan) (text : List ℕ) (n : ℕ) (os vs : List ℕ) : Type 0 where
   pub sound : first_of (plan_checks p text) ≡ None
@@ -95,29 +85,31 @@ module _ (p : Plan) (text os vs : List ℕ) (room_os : 203 ≤ length os) (room_
 
   -- whatever it answers, 13 aside
   pub told_accepted : {e : (Result ℕ Refusal)} {n : ℕ} {os' vs' : List ℕ} → e ≡ planned p text os vs → os' ≡ offsets_after p text os vs → vs' ≡ values_after p text os vs → e ≡ Ok n → AcceptedPlan p text n os' vs'
-  told_accepted {e} {n} {os'} {vs'} a b d t = go (first_of (plan_checks p text)) refl
-    where
-      go : (o : Option Refusal) → first_of (plan_checks p text) ≡ o → AcceptedPlan p text n os' vs'
-      go (Some r) s = no_element (ap count_in ((plan_refused p text os vs s).0 ∙ sym a ∙ t))
-      go None s =
-          let ss = stores_of p text in
-          let done = plan_accepted p text os vs s (omega (arith, few, room_os)) (omega (arith, few, room_vs)) refl refl refl in
-          let same : n ≡ length ss = some_same (ap count_in (sym t ∙ a ∙ sym done.0)) in
-          record {
-            sound = s;
-            count = same;
-            offsets = ap (take n) (b ∙ sym done.1.0) ∙ front_is (offsets_of ss) os (offsets_count ss ∙ sym same) (omega (arith, same, few, room_os));
-            values = ap (take n) (d ∙ sym done.1.1) ∙ front_is (values_of ss) vs (values_count ss ∙ sym same) (omega (arith, same, few, room_vs));
-          }
+  unfolding planned
+  told_accepted {e} {n} {os'} {vs'} a b d t =
+      let ss = stores_of p text in
+      let told = answered (lay_checks p text os vs) (length ss) (sym a ∙ t) in
+      let sound = none_first (plan_checks p text) _ told.0 in
+      let done = plan_accepted p text os vs sound (omega (arith, few, room_os)) (omega (arith, few, room_vs)) refl refl refl in
+      record {
+        sound = sound;
+        count = told.1;
+        offsets = ap (take n) (b ∙ sym done.1.0) ∙ front_is (offsets_of ss) os (offsets_count ss ∙ sym told.1) (omega (arith, told.1, few, room_os));
+        values = ap (take n) (d ∙ sym done.1.1) ∙ front_is (values_of ss) vs (values_count ss ∙ sym told.1) (omega (arith, told.1, few, room_vs));
+      }
 
   pub told_refused : {e : (Result ℕ Refusal)} {r : Refusal} → e ≡ planned p text os vs → e ≡ Err r → first_of (plan_checks p text) ≡ Some r
+  unfolding planned
   told_refused {e} {r} a t = go (first_of (plan_checks p text)) refl
     where
+      told : first_of (lay_checks p text os vs) ≡ Some r
+      told = refused (lay_checks p text os vs) (length (stores_of p text)) (sym a ∙ t)
+
       go : (o : Option Refusal) → first_of (plan_checks p text) ≡ o → first_of (plan_checks p text) ≡ Some r
-      go (Some q) s = s ∙ ap refusal_in ((plan_refused p text os vs s).0 ∙ sym a ∙ t)
+      go (Some q) s = s ∙ sym (refused_first (plan_checks p text) _ s) ∙ told
       go None s =
           let done = plan_accepted p text os vs s (omega (arith, few, room_os)) (omega (arith, few, room_vs)) refl refl refl in
-          no_element (ap refusal_in (done.0 ∙ sym a ∙ t))
+          not_both (done.0 ∙ sym a ∙ t)
 
 -- how far the slices go
 module _ {p : Plan} {text : List ℕ} {n : ℕ} {os vs : List ℕ} (a : AcceptedPlan p text n os vs) where
@@ -129,19 +121,3 @@ module _ {p : Plan} {text : List ℕ} {n : ℕ} {os vs : List ℕ} (a : Accepted
 
   pub values_fit : n ≤ length vs
   values_fit = omega (arith, sym (length-take n vs) ∙ ap length a.values ∙ values_count (stores_of p text) ∙ sym a.count)
-
-  -- the stores up to a cut, which are no more than there are
-  pub cut_made : (k : ℕ) {made : ℕ} (bank : List ℕ) → made ≡ min k n → stored_at (take made os) (take made vs) bank ≡ cut_bank (stores_of p text) k bank
-  cut_made k {made} bank e =
-      let ss = stores_of p text in
-      let few : made ≤ n = omega arith in
-      let same : take made ss ≡ take k ss = (rw (e, a.count)) ∙ take_min k ss in
-      ap (λ (l : List ℕ). stored_at l (take made vs) bank) (sym (take-take made n os few) ∙ ap (take made) a.offsets ∙ take_map (λ (s : Store). s.offset) made ss)
-      ∙ ap (λ (l : List ℕ). stored_at (offsets_of (take made ss)) l bank) (sym (take-take made n vs few) ∙ ap (take made) a.values ∙ take_map (λ (s : Store). s.value) made ss)
-      ∙ members_stored (take made ss) bank
-      ∙ ap (λ (l : List Store). stored l bank) same
-    where
-      take_map : (f : Store → ℕ) (m : ℕ) (ss : List Store) → take m (map f ss) ≡ map f (take m ss)
-      take_map f zero ss = refl
-      take_map f (suc m) [] = refl
-      take_map f (suc m) (s ∷ ss) = ap (λ (l : List ℕ). f s ∷ l) (take_map f m ss)

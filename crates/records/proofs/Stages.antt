@@ -48,9 +48,6 @@ bytes_fit (Text t) n which text place f {bytes} e =
     omega (arith, sym (ap length b) ∙ length-take f.len (text ++ (0 ∷ []))))
     (λ w. no_element (rw w at e))
 
-pub some_same : {A : Type 0} {x y : A} → Some x ≡ Some y → x ≡ y
-some_same e = cc
-
 -- the stores of a field that has a write, and of one that has none
 module _ (n : LuminaireNumbers) (which : Option ℕ) (text : List ℕ) (place : ℕ) (f : LuminaireField) where
   pub stores_of_write : {bytes : List ℕ} → bytes_for f.kind n which text place f ≡ Some bytes → stores_at n which text place f ≡ write_stores (written place f bytes)

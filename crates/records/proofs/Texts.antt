@@ -1,20 +1,23 @@
 -- Laws of a text: where it ends, its pieces, and those that fit.
 -- Assumes nothing.
-use Rattle.std.specs.Prelude.{None, Option, Some, unwrap_or}
+use Rattle.std.specs.Prelude.{None, Option, Some, unwrap_or, cond, eqb, ltb, not}
+use Rattle.std.specs.List.{position_or_len}
+use Rattle.std.proofs.lemmas.Bool.{ltb-false}
+use Rattle.std.proofs.lemmas.List.Sums.{prefix_len-le-length}
 use Rattle.std.proofs.lemmas.List.{take_rest}
 use Rattle.std.proofs.lemmas.Option.{same_Some}
 use mathlib.Core.Path.{◌≡◌, refl, sym, ap, ◌∙◌}
-use mathlib.Core.Bool.{true}
+use mathlib.Core.Bool.{Bool, true}
 use mathlib.Core.List.{List, [], ◌∷◌, ◌++◌, append-nil, append_assoc}
 use Prim.Native.Nat.{ℕ, zero, suc, ◌+◌, ◌-◌, ◌≤◌, ◌<◌, zero-le}
 use native.Mathlib.Nat.{not-suc-le-zero}
-use native.Mathlib.Numerals.{add-one}
+use Rattle.std.proofs.Math.Numerals.{one-add}
 use native.Mathlib.Omega.{arith}
 use borrow.Author.Tests.{le-leb, leb-true, ne_eqb}
 use borrow.Rule.Slice.PartMut.{put_mid}
 use lib.Dec.{leb}
-use lib.ListN.{length, get_or, take, drop, length-drop, length-append, take-append-drop, drop_of_length-le}
-use lib.Seq.{take-suc, drop-cons, append_snoc, take_at, drop_at, drop-drop}
+use lib.ListN.{length, take, drop, length-drop, length-append, take-append-drop, drop_of_length-le}
+use lib.Seq.{take_at, drop_at, drop-drop}
 use Rattle.bus.specs.Value.{laid_into}
 use Rattle.bus.proofs.Tests.{by_test}
 use Rattle.bus.proofs.Lists.{laid_whole, no_element}
@@ -26,28 +29,22 @@ use Rattle.records.specs.Text.{until_zero, piece, taken_len, pieces_behind, piec
 use Rattle.records.specs.Steps.{pushed, after_push}
 use Rattle.records.proofs.Sequences.{part_of, one_byte}
 
--- the first i bytes of a text stand before its first 00
-module _ (bs : List ℕ) (i : ℕ) where
-  abbrev Before : Type 0
-  Before = take i bs ++ until_zero (drop i bs) ≡ until_zero bs
+-- what is before the first 00, by its place
+pub up_to_zero : (bs : List ℕ) → take (position_or_len (λ b. eqb b 0) bs) bs ≡ until_zero bs
+unfolding until_zero
+up_to_zero [] = refl
+up_to_zero (b ∷ bs) =
+    by_test (eqb b 0)
+    (λ t. rw t refl)
+    (λ t. rw (t, one-add) (ap (λ (r : List ℕ). b ∷ r) (up_to_zero bs)))
 
-  pub zero_at : i < length bs → get_or bs i 0 ≡ 0 → Before → take i bs ≡ until_zero bs
-  unfolding until_zero
-  zero_at h e b =
-      let ends : until_zero (drop i bs) ≡ [] = rw (drop-cons bs i 0 h, e) in
-      sym (append-nil (take i bs)) ∙ ap (λ (r : List ℕ). take i bs ++ r) (sym ends) ∙ b
-
-  pub next_byte : i < length bs → (get_or bs i 0 ≡ 0 → ⊥) → Before → take (i + 1) bs ++ until_zero (drop (i + 1) bs) ≡ until_zero bs
-  unfolding until_zero
-  next_byte h ne b =
-      let goes : until_zero (drop i bs) ≡ get_or bs i 0 ∷ until_zero (drop (suc i) bs) = rw (drop-cons bs i 0 h, ne_eqb (get_or bs i 0) 0 ne) in
-      rw (add-one, take-suc bs i 0 h) (append_snoc (take i bs) (get_or bs i 0) (until_zero (drop (suc i) bs)) ∙ ap (λ (r : List ℕ). take i bs ++ r) (sym goes) ∙ b)
-
-  pub no_byte : length bs ≤ i → Before → take i bs ≡ until_zero bs
-  unfolding until_zero
-  no_byte h b =
-      let ends : until_zero (drop i bs) ≡ [] = rw (drop_of_length-le bs {i = i} h) in
-      sym (append-nil (take i bs)) ∙ ap (λ (r : List ℕ). take i bs ++ r) (sym ends) ∙ b
+-- the place of the first that passes, or of the end
+pub place_or_end : (test : ℕ → Bool) (bs : List ℕ) → (let n = position_or_len test bs in unwrap_or (cond (ltb n (length bs)) (Some n) None) (length bs) ≡ n)
+place_or_end test bs =
+    let n = position_or_len test bs in
+    by_test (ltb n (length bs))
+    (λ t. rw t refl)
+    (λ t. rw t (omega (arith, ltb-false n (length bs) t, prefix_len-le-length (λ b. not (test b)) bs)))
 
 -- ---- pieces
 

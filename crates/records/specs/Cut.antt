@@ -39,9 +39,3 @@ abbrev pub EveryFieldHasItsShare : Type 0
 EveryFieldHasItsShare =
     (p : Plan) (text : List ℕ) (k i : ℕ) →
     take (length (stores_for p text i)) (drop (before p text i) (take k (stores_of p text))) ≡ taken_in p text k i
-
--- stores in two slices, the offsets and the values
-abbrev pub stored_at : List ℕ → List ℕ → List ℕ → List ℕ
-stored_at [] vs bank = bank
-stored_at (o ∷ os) [] bank = bank
-stored_at (o ∷ os) (v ∷ vs) bank = stored_at os vs (set bank o v)

@@ -116,6 +116,7 @@ impl ImplementedParts {
         if !self.in_range() {
             return 0;
         }
+        // Counted by hand: a part that finds no room counts too, and an iterator over out would end with out.
         let mut count = 0;
         for bit in 0..IMPLEMENTED_PART_BITS {
             if (self.0 >> bit) % 2 == 1 {

@@ -1,10 +1,10 @@
 // A plan, cut while it is stored, and the bank read out behind the cut.
-ghost use Rattle.std.specs.Prelude.{◌≡◌, ◌≤◌, length};
+ghost use Rattle.std.specs.Prelude.{◌≡◌};
 ghost use Rattle.bank.specs.Refusal.{tested, checked};
 ghost use Rattle.bank.specs.ReadOut.{starting};
 ghost use Rattle.bank.specs.Calls.{calls_in};
 ghost use Rattle.records.specs.Plan.{plan_checks, stores_of};
-ghost use Rattle.records.specs.Cut.{cut_bank, stored_at};
+ghost use Rattle.records.specs.Cut.{cut_bank};
 ghost use Rattle.records.specs.CutRun.{bank_behind, read_back, buffer_behind, answers_behind};
 
 use crate::luminaire_write::{LuminaireNumbers, Plan};
@@ -13,23 +13,12 @@ use bank::call_list::{Answer, Call, run};
 use bank::{Bank1Layout, ReadOut, Refusal};
 use bus::BANK_LUMINAIRE_INFO;
 
-// Makes stores, from the first on, in a bank. They come as `Plan::stores` lays them, in two slices.
-fn make_stores(offsets: &[u8], values: &[u8], bank: &mut [u8])
-    ensures { bank.new ≡ stored_at offsets.now values.now bank.old }
-{
-    for (offset, value) in offsets.iter().zip(values) {
-        put(bank, *offset as usize, *value);
-    }
-}
-
-// Starts a read-out of bank 1 with a length.
+// Starts a read-out of bank 1 with a length. One that is no 16-bit number is refused like any other over 256.
 fn start(len: usize) -> Result<ReadOut, Refusal>
     ensures { result ≡ starting 1 len }
 {
-    if 256 < len {
-        return Err(Refusal::ReadOutInvalid);
-    }
-    ReadOut::starting(BANK_LUMINAIRE_INFO, len as u16)
+    let len = u16::try_from(len).or(Err(Refusal::ReadOutInvalid))?;
+    ReadOut::starting(BANK_LUMINAIRE_INFO, len)
 }
 
 // Makes the stores of a plan in a bank, up to a cut.
@@ -37,11 +26,10 @@ fn store(plan: Plan, text: &[u8], cut: usize, bank: &mut [u8]) -> Result<(), Ref
     ensures answer { result ≡ tested (plan_checks plan text.now) }
     ensures stored { bank.new ≡ checked (plan_checks plan text.now) (λ _. bank.old) (cut_bank (stores_of plan text.now) cut bank.old) }
 {
-    let mut offsets = [0; 256];
-    let mut values = [0; 256];
-    let count = plan.stores(text, &mut offsets, &mut values)?;
-    let made = usize::min(cut, count);
-    make_stores(&offsets[..made], &values[..made], bank);
+    let stores = plan.store_list(text)?;
+    for store in stores.as_slice().iter().take(cut) {
+        put(bank, store.offset as usize, store.value);
+    }
     Ok(())
 }
 

@@ -1,5 +1,5 @@
 // A list in a place of fixed size, since no crate here has a heap.
-ghost use Rattle.std.specs.Prelude.{◌≡◌, ◌+◌, ◌<◌, ◌≤◌, [], ◌∷◌, ◌++◌, length};
+ghost use Rattle.std.specs.Prelude.{◌≡◌, ◌+◌, ◌<◌, ◌≤◌, [], ◌∷◌, ◌++◌, length, take};
 
 use std::marker::Model;
 
@@ -43,7 +43,7 @@ impl<T: Copy, const N: usize> FixedList<T, N> {
         &self.items[..self.len]
     }
 
-    pub fn push(&mut self, item: T)
+    pub(crate) fn push(&mut self, item: T)
         requires { length self.old < N }
         ensures { self.new ≡ self.old ++ item ∷ [] }
     {
@@ -51,7 +51,7 @@ impl<T: Copy, const N: usize> FixedList<T, N> {
         self.len += 1;
     }
 
-    pub fn extend(&mut self, items: &[T])
+    pub(crate) fn extend(&mut self, items: &[T])
         requires { length self.old + length items.now ≤ N }
         ensures { self.new ≡ self.old ++ items.now }
     {
@@ -59,5 +59,13 @@ impl<T: Copy, const N: usize> FixedList<T, N> {
         let places = &mut self.items[..];
         places[self.len..end].copy_from_slice(items);
         self.len = end;
+    }
+
+    // Puts items behind those that are there, as far as there is room.
+    pub fn fill_up(&mut self, items: &[T])
+        ensures { self.new ≡ take N (self.old ++ items.now) }
+    {
+        let n = usize::min(N - self.len, items.len());
+        self.extend(&items[..n]);
     }
 }

@@ -108,10 +108,5 @@ fn within(window: &[u8], offset: u8, len: usize) -> &[u8]
 pub(crate) fn is_mask(bytes: &[u8]) -> bool
     ensures { result ≡ all_ff bytes.now }
 {
-    for byte in bytes {
-        if *byte != MASK {
-            return false;
-        }
-    }
-    true
+    bytes.iter().all(|byte| *byte == MASK)
 }

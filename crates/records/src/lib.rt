@@ -6,7 +6,7 @@
 pub mod attributes;
 pub mod bus_unit;
 pub mod cut_plan;
-mod fixed_list;
+pub mod fixed_list;
 pub mod fixed_text;
 pub mod identity;
 pub mod luminaire_write;

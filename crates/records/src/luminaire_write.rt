@@ -1,15 +1,15 @@
 // The plan of a write to bank 1: its writes, their stages and stores, and why it may be refused (luminaire_write.rs).
-ghost use Rattle.std.specs.Prelude.{◌≡◌, ◌++◌, ◌+◌, ◌≤◌, length, set, slice_get};
+ghost use Rattle.std.specs.Prelude.{◌≡◌, ◌++◌, ◌+◌, ◌≤◌, length, Err, IfSome, Ok, Some, option_map, slice_get};
 ghost use Rattle.std.specs.Int.Count.{ones};
 ghost use Rattle.bus.specs.Number.{low_bytes};
 ghost use Rattle.bus.specs.Value.{laid_into};
-ghost use Rattle.bank.specs.Refusal.{tested};
+ghost use Rattle.bank.specs.Refusal.{tested, checked};
 ghost use Rattle.bank.specs.Fields.{luminaire_fields};
 ghost use Rattle.records.specs.Writes.{number_values, number_for, wanted_number, is_for, terminated, bytes_for, written, planned_writes, field_writes, all_bytes, end_of, held_by, is_staged, stages_of, stages_at, part_of, single_bytes, write_stores, plan_stores, offsets_of, values_of, gather};
-ghost use Rattle.records.specs.Plan.{number_checks, write_text_checks, if_wanted, field_checks, index_over, plan_checks, planned, offsets_after, values_after};
+ghost use Rattle.records.specs.Plan.{number_checks, write_text_checks, if_wanted, field_checks, index_over, plan_checks, stores_of, planned, offsets_after, values_after};
 
 use crate::fixed_list::FixedList;
-use crate::output::put_all;
+use crate::output::{put, put_all};
 use bank::luminaire_write::LUMINAIRE_FIELDS;
 use bank::{Bank1Layout, FieldKind, LuminaireField, Refusal, check_writable, luminaire_fields};
 use bus::part251::BANK1_FORMAT_GATE_LAST_OFFSET;
@@ -95,7 +95,8 @@ impl LuminaireNumbers {
     }
 }
 
-// A write to the field at an index: its bytes are the first so many of a slice that is lent beside it.
+// A write to a field: its bytes are the first so many of a slice that is lent beside it. 01 has the field by its index in
+// the place of a reference.
 #[derive(Clone, Copy)]
 pub struct FieldWrite {
     pub field: usize,
@@ -134,6 +135,14 @@ impl WriteStage {
     }
 }
 
+// A row of the table: a field, and its index there.
+#[derive(Clone, Copy)]
+struct Row {
+    index: usize,
+    field: LuminaireField,
+    ghost in_table: { slice_get luminaire_fields index ≡ Some field },
+}
+
 // DiiA 251 §9.2.5: whether a write of so many bytes is a text that could be read half written.
 fn is_staged(field: LuminaireField, len: usize) -> bool
     ensures { result ≡ is_staged field.kind len }
@@ -142,24 +151,23 @@ fn is_staged(field: LuminaireField, len: usize) -> bool
 }
 
 // The stages of a write of so many bytes: a text is emptied first and gets its first byte last.
-fn stages_of(index: usize, field: LuminaireField, len: usize) -> FixedList<WriteStage, 3>
-    requires { slice_get luminaire_fields index ≡ Some field }
-    ensures { result ≡ stages_of index field len }
+fn stages_of(row: Row, len: usize) -> FixedList<WriteStage, 3>
+    ensures { result ≡ stages_of row.index row.field len }
 {
     let whole = WriteStage {
-        field: index,
-        offset: field.offset,
+        field: row.index,
+        offset: row.field.offset,
         part: StagePart::Whole,
     };
     let mut stages = FixedList::new(whole);
-    if is_staged(field, len) {
+    if is_staged(row.field, len) {
         stages.extend(&[
             WriteStage {
                 part: StagePart::Terminator,
                 ..whole
             },
             WriteStage {
-                offset: field.offset + 1,
+                offset: row.field.offset + 1,
                 part: StagePart::Tail,
                 ..whole
             },
@@ -175,6 +183,18 @@ fn stages_of(index: usize, field: LuminaireField, len: usize) -> FixedList<Write
 }
 
 impl FieldWrite {
+    // The row of its field, where there is such a field.
+    fn row(self) -> Option<Row>
+        ensures index { IfSome result (λ row. row.index ≡ self.field) }
+        ensures field { option_map (λ row. row.field) result ≡ slice_get luminaire_fields self.field }
+    {
+        let field = LuminaireField::of_index(self.field)?;
+        Some(Row {
+            index: self.field,
+            field,
+        })
+    }
+
     // The offset behind its last byte, where there is such a field.
     pub fn end(self) -> Option<usize>
         ensures { result ≡ end_of self }
@@ -205,8 +225,8 @@ impl FieldWrite {
     pub fn stages(self) -> usize
         ensures { result ≡ length (stages_at self) }
     {
-        match LuminaireField::of_index(self.field) {
-            Some(field) => stages_of(self.field, field, self.len as usize).len(),
+        match self.row() {
+            Some(row) => stages_of(row, self.len as usize).len(),
             None => 0,
         }
     }
@@ -215,8 +235,7 @@ impl FieldWrite {
     pub fn stage(self, place: usize) -> Option<WriteStage>
         ensures { result ≡ slice_get (stages_at self) place }
     {
-        let field = LuminaireField::of_index(self.field)?;
-        let stages = stages_of(self.field, field, self.len as usize);
+        let stages = stages_of(self.row()?, self.len as usize);
         stages.as_slice().get(place).copied()
     }
 }
@@ -254,7 +273,7 @@ fn text_bytes(field: LuminaireField, text: &[u8]) -> WriteBytes
 fn is_for(text_field: Option<usize>, index: usize) -> bool
     ensures { result ≡ is_for text_field index }
 {
-    matches!(text_field, Some(i) if i == index)
+    text_field == Some(index)
 }
 
 // A store: its offset in the bank, and its value.
@@ -282,13 +301,12 @@ fn lay_stage(offset: u8, bytes: &[u8], stores: &mut StoreList)
 }
 
 // Lays the stores of the write to a field, stage by stage.
-fn lay_write(index: usize, field: LuminaireField, bytes: &[u8], stores: &mut StoreList)
-    requires in_table { slice_get luminaire_fields index ≡ Some field }
-    requires fits { length bytes.now ≤ field.len }
-    requires room { length stores.old + length (write_stores (written index field bytes.now)) ≤ 256 }
-    ensures { stores.new ≡ stores.old ++ write_stores (written index field bytes.now) }
+fn lay_write(row: Row, bytes: &[u8], stores: &mut StoreList)
+    requires fits { length bytes.now ≤ row.field.len }
+    requires room { length stores.old + length (write_stores (written row.index row.field bytes.now)) ≤ 256 }
+    ensures { stores.new ≡ stores.old ++ write_stores (written row.index row.field bytes.now) }
 {
-    let stages = stages_of(index, field, bytes.len());
+    let stages = stages_of(row, bytes.len());
     for stage in stages.as_slice() {
         lay_stage(stage.offset, stage.bytes(bytes), stores);
     }
@@ -304,17 +322,16 @@ struct Content<'a> {
 
 impl<'a> Content<'a> {
     // The bytes that are to be written to a field.
-    fn bytes_for(self, index: usize, field: LuminaireField) -> Option<WriteBytes>
-        requires { slice_get luminaire_fields index ≡ Some field }
-        ensures { result ≡ bytes_for field.kind self.entry.numbers self.entry.text_field self.entry.text.now index field }
+    fn bytes_for(self, row: Row) -> Option<WriteBytes>
+        ensures { result ≡ bytes_for row.field.kind self.entry.numbers self.entry.text_field self.entry.text.now row.index row.field }
     {
-        match field.kind {
+        match row.field.kind {
             FieldKind::Number { .. } => {
-                let value = self.numbers.of_field(field)?;
-                Some(number_bytes(value, field.len))
+                let value = self.numbers.of_field(row.field)?;
+                Some(number_bytes(value, row.field.len))
             }
-            FieldKind::Text(_) if is_for(self.text_field, index) => {
-                Some(text_bytes(field, self.text))
+            FieldKind::Text(_) if is_for(self.text_field, row.index) => {
+                Some(text_bytes(row.field, self.text))
             }
             FieldKind::LayoutId | FieldKind::Text(_) => None,
         }
@@ -330,20 +347,15 @@ impl<'a> Content<'a> {
         });
         let table = luminaire_fields();
         for (index, field) in table.iter().enumerate() {
-            if let Some(bytes) = self.bytes_for(index, *field) {
-                lay_write(index, *field, bytes.as_slice(), &mut stores);
+            let row = Row {
+                index,
+                field: *field,
+            };
+            if let Some(bytes) = self.bytes_for(row) {
+                lay_write(row, bytes.as_slice(), &mut stores);
             }
         }
         stores
-    }
-}
-
-// Stores a write at a place, where the slice has one.
-fn put_write(writes: &mut [FieldWrite], place: usize, write: FieldWrite)
-    ensures { writes.new ≡ set writes.old place write }
-{
-    if place < writes.len() {
-        writes[place] = write;
     }
 }
 
@@ -369,12 +381,16 @@ pub fn planned_writes(
     let mut count = 0;
     let mut used = 0;
     for (index, field) in table.iter().enumerate() {
-        if let Some(own) = content.bytes_for(index, *field) {
+        let row = Row {
+            index,
+            field: *field,
+        };
+        if let Some(own) = content.bytes_for(row) {
             let write = FieldWrite {
                 field: index,
                 len: own.len() as u8,
             };
-            put_write(writes, count, write);
+            put(writes, count, write);
             put_all(bytes, used, own.as_slice());
             count += 1;
             used += own.len();
@@ -436,14 +452,14 @@ impl Plan {
     }
 
     // Whether what is wanted of a field may be written, a number before a text.
-    fn check_field(self, index: usize, field: LuminaireField, text: &[u8]) -> Result<(), Refusal>
-        ensures { result ≡ tested (field_checks self text.now index field) }
+    fn check_field(self, row: Row, text: &[u8]) -> Result<(), Refusal>
+        ensures { result ≡ tested (field_checks self text.now row.index row.field) }
     {
-        self.check_wanted(field)?;
-        if !is_for(self.text_field, index) {
+        self.check_wanted(row.field)?;
+        if !is_for(self.text_field, row.index) {
             return Ok(());
         }
-        check_text(self.layout, field, text)
+        check_text(self.layout, row.field, text)
     }
 
     // Whether what is wanted of each field may be written, by rising offset.
@@ -452,7 +468,11 @@ impl Plan {
     {
         let table = luminaire_fields();
         for (index, field) in table.iter().enumerate() {
-            self.check_field(index, *field, text)?;
+            let row = Row {
+                index,
+                field: *field,
+            };
+            self.check_field(row, text)?;
         }
         Ok(())
     }
@@ -460,7 +480,7 @@ impl Plan {
     fn has_unknown_field(self) -> bool
         ensures { result ≡ index_over self.text_field }
     {
-        matches!(self.text_field, Some(index) if FIELDS <= index)
+        self.text_field.is_some_and(|index| FIELDS <= index)
     }
 
     // Whether it may be written, whatever slices are lent for its stores.
@@ -476,6 +496,19 @@ impl Plan {
         self.check_fields(text)
     }
 
+    // The stores of the plan, whatever slices are lent for them.
+    pub(crate) fn store_list(self, text: &[u8]) -> Result<StoreList, Refusal>
+        ensures { result ≡ checked (plan_checks self text.now) Err (Ok (stores_of self text.now)) }
+    {
+        self.check(text)?;
+        let content = Content {
+            numbers: self.numbers,
+            text_field: self.text_field,
+            text,
+        };
+        Ok(content.stores())
+    }
+
     // Lays the stores of the plan, and answers how many there are. By 01 two byte slices are lent, one for the offsets and
     // one for the values, each of any length: the plan is refused where either is too short.
     pub fn stores(
@@ -488,13 +521,7 @@ impl Plan {
         ensures offsets { offsets.new ≡ offsets_after self text.now offsets.old values.old }
         ensures values { values.new ≡ values_after self text.now offsets.old values.old }
     {
-        self.check(text)?;
-        let content = Content {
-            numbers: self.numbers,
-            text_field: self.text_field,
-            text,
-        };
-        let stores = content.stores();
+        let stores = self.store_list(text)?;
         let count = stores.len();
         if offsets.len() < count || values.len() < count {
             return Err(Refusal::SliceTooShort);

@@ -3,7 +3,6 @@
 ghost use Rattle.std.specs.Prelude.{◌≡◌, ◌≤◌, ◌<◌, length, IfSome, option_map, option_and_then};
 ghost use Rattle.bus.specs.Number.{number};
 ghost use Rattle.bus.specs.Value.{is_not_implemented, FitsWidth, laid_into};
-ghost use Rattle.bank.specs.Writable.{format_in};
 ghost use Rattle.records.specs.Places.{field_at, byte_at, number_at, reading_of, reading_at, value_read, is_scale, scale_of, scale_at};
 ghost use Rattle.records.specs.Records.{bank0_identity, bank1_profile, bank0_bus_unit, energy_bank, condition, gear_diagnostics, source_diagnostics, luminaire_maintenance};
 ghost use Rattle.records.specs.Luminaire.{says209, value_in, number_read, if_from, luminaire};
@@ -266,13 +265,6 @@ pub struct ParsedLuminaire {
     pub free_use: Option<FixedText<32>>,
 }
 
-// The format that an id gives, if it is there and one of them.
-fn format_in(id: Option<u16>) -> Option<LuminaireFormat>
-    ensures { result ≡ format_in id }
-{
-    LuminaireFormat::from_content_format_id(id?)
-}
-
 // What the record gives for a raw number: a value only where its rule shows it.
 fn luminaire_value(raw: u32, rule: NumberRule, format: LuminaireFormat) -> LuminaireValue
     ensures { result ≡ value_in rule format raw }
@@ -304,12 +296,9 @@ impl<'a> LuminaireBank<'a> {
         ensures same { result.given ≡ self.entry.given }
         ensures later { result.format ≡ if_from first self.entry.format }
     {
-        let least = first.content_format_id();
         LuminaireBank {
             given: self.given,
-            format: self
-                .format
-                .filter(|format| least <= format.content_format_id()),
+            format: self.format.filter(|format| first <= *format),
         }
     }
 
@@ -338,7 +327,7 @@ pub fn parse_bank1_luminaire(bytes: &[u8], start_offset: u16) -> ParsedLuminaire
     let content_format_id = given.content_format_id();
     let all = LuminaireBank {
         given,
-        format: format_in(content_format_id),
+        format: content_format_id.and_then(LuminaireFormat::from_content_format_id),
     };
     let from4 = all.since(LuminaireFormat::V4);
     let from5 = all.since(LuminaireFormat::V5);

@@ -23,14 +23,8 @@ pub fn text_bytes(bank: &[u8], region: TextRegion) -> &[u8]
 }
 
 // How many bytes stand before the first 00.
-#[tactic(auto, using(crate::proofs::Texts::zero_at, crate::proofs::Texts::next_byte, crate::proofs::Texts::no_byte))]
 pub(crate) fn text_len(raw: &[u8]) -> usize
     ensures { (result ≤ length raw.now) × (take result raw.now ≡ until_zero raw.now) }
 {
-    for (i, byte) in raw.iter().enumerate() {
-        if *byte == 0 {
-            return i;
-        }
-    }
-    raw.len()
+    raw.iter().position(|byte| *byte == 0).unwrap_or(raw.len())
 }

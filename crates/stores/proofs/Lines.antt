@@ -1,17 +1,15 @@
--- Laws of what is printed, and of lines laid one behind the other.
+-- Laws of what is printed, and of lines put one behind the other.
 -- Assumes nothing.
 use mathlib.Core.Logic.{◌⊎◌, inl, inr}
-use mathlib.Core.Path.{◌≡◌, refl, sym, ap, ◌∙◌}
+use mathlib.Core.Path.{◌≡◌, refl, ap, ◌∙◌}
 use mathlib.Core.List.{List, [], ◌∷◌, ◌++◌}
-use Prim.Native.Nat.{ℕ, ◌+◌, ◌*◌, ◌≤◌}
-use native.Mathlib.Nat.{zero-add}
+use Prim.Native.Nat.{ℕ, ◌+◌, ◌≤◌}
 use native.Mathlib.Omega.{arith}
 use lib.Dec.{ltb, lit≤}
-use lib.ListN.{length, set, length-append}
-use lib.Seq.{sets}
+use lib.ListN.{length, take, length-append}
+use Rattle.std.proofs.Common.{take_all}
 use Rattle.bus.proofs.Tests.{by_test}
 use Rattle.records.specs.Writes.{Store, flat, offsets_of, values_of}
-use Rattle.records.proofs.Laying.{sets_append}
 use Rattle.stores.specs.Listing.{decimal, counted, line}
 use Rattle.stores.specs.Steps.{lines}
 
@@ -27,18 +25,13 @@ decimal_short n =
 pub counted_length : (word : List ℕ) (n : ℕ) → length (counted word n) ≡ length word + (length (decimal n) + 1)
 counted_length word n = length-append word (decimal n ++ (0x0A ∷ [])) ∙ ap (λ (k : ℕ). length word + k) (length-append (decimal n) (0x0A ∷ []))
 
--- one part behind the other, from the first index on
-pub two_laid : (out xs ys : List ℕ) → sets (sets out 0 xs) (length xs) ys ≡ sets out 0 (xs ++ ys)
-two_laid out xs ys = sym (sets_append out 0 xs ys ∙ ap (λ (k : ℕ). sets (sets out 0 xs) k ys) (zero-add (length xs)))
+-- what is put behind a text that has room for it
+pub joined : (text more : List ℕ) {after : List ℕ} → after ≡ take 4096 (text ++ more) → length text + length more ≤ 4096 → after ≡ text ++ more
+joined text more e h = e ∙ take_all 4096 (text ++ more) (rw length-append h)
 
-pub three_laid : (out xs ys : List ℕ) (z : ℕ) → set (sets (sets out 0 xs) (length xs) ys) (length xs + length ys) z ≡ sets out 0 (xs ++ (ys ++ (z ∷ [])))
-three_laid out xs ys z = sym (sets_append (sets out 0 xs) (length xs) ys (z ∷ [])) ∙ two_laid out xs (ys ++ (z ∷ []))
-
--- a line has six bytes
-pub lines_few : (os vs : List ℕ) → length (lines os vs) ≤ 6 * length os
-lines_few [] vs = lit≤ tt
-lines_few (o ∷ os) [] = omega arith
-lines_few (o ∷ os) (v ∷ vs) = omega (arith, lines_few os vs)
+-- and into a text that is empty
+pub begun : (more : List ℕ) {empty after : List ℕ} → empty ≡ [] → after ≡ take 4096 (empty ++ more) → length more ≤ 4096 → after ≡ more
+begun more e f h = f ∙ ap (λ (l : List ℕ). take 4096 (l ++ more)) e ∙ take_all 4096 more h
 
 pub no_lines : (os vs : List ℕ) → (length os ≡ 0) ⊎ (length vs ≡ 0) → lines os vs ≡ []
 no_lines [] vs e = refl

@@ -4,18 +4,8 @@ use Rattle.std.specs.Prelude.{◌≡◌, ℕ, ◌<◌, ◌≤◌, List, ◌++◌
 use Rattle.std.specs.Io.KnownBytes.{Appends, Consumes, IsAtEnd}
 use Rattle.std.proofs.Common.{sym, ap, ◌∙◌, subst, arith, append-nil, length-take-le, take_all, take_at}
 use Rattle.std.proofs.lemmas.Bool.{ltb-true, ltb-false}
-use Rattle.bus.specs.Value.{laid_into}
-use Rattle.bus.proofs.Lists.{sets_laid}
 use Rattle.bus.proofs.Tests.{by_test}
-use Rattle.records.proofs.Laying.{front_laid}
 use Rattle.stores.specs.Listing.{printed}
-use Rattle.stores.proofs.Answers.{printed_short}
-
--- the part of the text that is written
-pub whole : (file out : List ℕ) {text : List ℕ} {n : ℕ} → n ≡ length (printed file) → text ≡ laid_into (printed file) out → 4096 ≤ length out → take n text ≡ printed file
-whole file out e f h =
-    let xs = printed file in
-    rw (e, f, sym (sets_laid xs out)) (front_laid xs out (omega (arith, printed_short file, h)))
 
 -- a slice that is full, or holds all that a reader had
 pub read : (known left : Option (List ℕ)) (block : List ℕ) (n m : ℕ) → length block ≡ m → n ≤ length block → Consumes known left (take n block) → (n < length block → IsAtEnd left) → IfSome known (λ xs. take n block ≡ take m xs)

@@ -16,9 +16,6 @@ use streams::{read_full, write_full};
 // So much is read of a file; no good one is as long.
 const FILE_LEN: usize = 4096;
 
-// Room for what is printed for any file.
-const TEXT_LEN: usize = 4096;
-
 // Reads a file, and writes what is printed for it. After an error, which only reading or writing gives, the first bytes of
 // that, or none, are written.
 fn print<R: Read, W: Write>(input: &mut R, output: &mut W) -> io::Result<()>
@@ -29,9 +26,8 @@ fn print<R: Read, W: Write>(input: &mut R, output: &mut W) -> io::Result<()>
 {
     let mut file = [0; FILE_LEN];
     let len = read_full(input, &mut file)?;
-    let mut text = [0; TEXT_LEN];
-    let n = listing::answer(&file[..len], &mut text);
-    write_full(output, &text[..n])
+    let text = listing::answer(&file[..len]);
+    write_full(output, text.as_slice())
 }
 
 fn main(rt: HostRuntime) -> io::Result<()> {

@@ -1,55 +1,44 @@
--- `bus::encode_value` meets its contract, by its invariant.
+-- `bus::encode_value` meets its contract: the low bytes are the last of all eight, and as many are copied as there is room for.
 -- Assumes nothing.
-use mathlib.Core.Path.{◌≡◌, sym, ap, ◌∙◌}
-use mathlib.Core.List.{List, ◌++◌}
-use Prim.Native.Nat.{ℕ, ◌*◌, ◌-◌, ◌/◌, ◌%◌, ◌^◌, ◌<◌, ◌≤◌}
-use native.Mathlib.Omega.{arith}
-use lib.ListN.{length, set, take, drop, length-set}
-use Rattle.bus.specs.Number.{low_bytes}
-use Rattle.bus.specs.Value.{laid_into, encoded}
-use Rattle.bus.proofs.Number.{length_low_bytes, low_bytes_at}
-use borrow.Author.Tests.{leb-true, leb-false}
+use Rattle.std.proofs.Common.{◌≡◌, ◌∙◌, ap, ℕ, List, ◌++◌, ◌-◌, ◌≤◌, length, take, drop, w64, arith}
+use Rattle.std.specs.Int.{to_be_bytes}
+use native.Mathlib.Nat.{div-one}
 use mathlib.Core.Logic.{◌⊎◌, inl, inr}
+use borrow.Author.Tests.{leb-true, leb-false}
 use lib.Dec.{leb}
+use Rattle.bus.specs.declared.ValueWidth.{ValueWidth}
+use Rattle.bus.specs.declared.ValueWidth.TheVariants.{U8, U16, U24, U32, U48, I8, I16, I32}
+use Rattle.bus.specs.Number.{low_bytes}
+use Rattle.bus.specs.Width.{bytes_of}
 use Rattle.bus.proofs.Tests.{by_test}
-use Rattle.bus.proofs.Lists.{laid_suc, laid_full}
+use Rattle.bus.proofs.Lists.{laid_full}
 use Rattle.bus.proofs.encode_value.Goals as goal
-use Rattle.bus.proofs.encode_value.Goals.{At-loop-i}
 
--- the low bytes that are laid
-abbrev Low : At-loop-i → List ℕ
-Low c = low_bytes c.bytes-n.result c.args.raw
+-- the last of the eight bytes, as they are lent
+abbrev last : ℕ → List ℕ → List ℕ
+last n bytes = take (8 - (8 - n)) (drop (8 - n) bytes)
 
--- the width's own number of bytes for the one in the local
-of_width : (c : At-loop-i) → laid_into (Low c) c.args.out.now ≡ encoded c.args.width c.args.raw c.args.out.now
-of_width c =
-    let a = c.args in
-    ap (λ (k : ℕ). laid_into (low_bytes k a.raw) a.out.now) c.bytes-n.ensures
-
--- as many bytes as the local says
-low_long : (c : At-loop-i) → length (Low c) ≡ c.bytes-n.result
-low_long c = length_low_bytes c.bytes-n.result c.args.raw
-
-pub loop-i-preserved : goal.loop-i-preserved
-loop-i-preserved c =
-    let a = c.args in
-    let i = c.loop-i.i in
-    let n = c.bytes-n.result in
-    let low = Low (goal.at.loop-i-preserved c).At-loop-i in
-    let b = a.raw / 2 ^ (8 * (n - 1 - i)) % 256 in
-    let in_low : i < length low = rw (length_low_bytes n a.raw) (omega arith) in (
-      length-set c.loop-i.out i b ∙ c.loop-i.invariant.0,
-      ap (λ (o : List ℕ). set o i b) c.loop-i.invariant.1
-          ∙ ap (set (take i low ++ drop i a.out.now) i) (sym (low_bytes_at n a.raw i (omega arith)))
-          ∙ laid_suc low a.out.now i 0 in_low (omega arith),
-    )
+last_low : (w : ValueWidth) (v : ℕ) → last (bytes_of w) (to_be_bytes w64 v) ≡ low_bytes (bytes_of w) v
+unfolding low_bytes
+last_low U8 v = rw div-one
+last_low U16 v = rw div-one
+last_low U24 v = rw div-one
+last_low U32 v = rw div-one
+last_low U48 v = rw div-one
+last_low I8 v = rw div-one
+last_low I16 v = rw div-one
+last_low I32 v = rw div-one
 
 pub returns : goal.returns
 returns c =
     let a = c.args in
-    let at = (goal.at.returns c).At-loop-i in
-    let low = Low at in
-    let long : length low ≡ c.bytes-n.result = low_long at in
-    let full : length low ≤ c.loop-i.i ⊎ length a.out.now ≤ c.loop-i.i =
-    by_test (leb c.bytes-n.result (length a.out.now)) (λ t. inl (omega (arith, leb-true _ _ t))) (λ t. inr (omega (arith, leb-false _ _ t))) in
-    c.loop-i.invariant.1 ∙ laid_full low a.out.now c.loop-i.i full (omega arith) (omega arith) ∙ of_width at
+    let n = c.min-n.result in
+    let low = low_bytes (bytes_of a.width) a.raw in
+    let is_low : last c.bytes.result c.to_be_bytes-bytes.result ≡ low = rw (c.to_be_bytes-bytes.ensures, c.bytes.ensures) (last_low a.width a.raw) in
+    let long = ap length is_low in
+    let full : length low ≤ n ⊎ length a.out.now ≤ n =
+    by_test (leb (length low) (length a.out.now))
+    (λ t. inl (omega (arith, long, c.min-n.ensures, leb-true _ _ t)))
+    (λ t. inr (omega (arith, long, c.min-n.ensures, leb-false _ _ t))) in
+    ap (λ (r : List ℕ). r ++ drop n a.out.now) (c.copy_from_slice.ensures.after ∙ ap (take n) is_low)
+    ∙ laid_full low a.out.now n full (omega (arith, long, c.min-n.ensures)) (omega (arith, long, c.min-n.ensures))

@@ -1,20 +1,16 @@
--- `bank::luminaire_write::first_not_printable` meets its contract, by its invariant.
+-- `bank::luminaire_write::first_not_printable` meets its contract: the search gives the first byte that is not printable.
 -- Assumes nothing.
-use Rattle.std.proofs.Common.{refl, sym, ◌∙◌}
-use Rattle.bank.specs.Fields.{first_not_printable}
-use Rattle.bank.proofs.Texts.{found, passed_byte}
+use Rattle.std.proofs.Common.{◌∙◌, rules}
+use Rattle.std.specs.Prelude.{not}
+use Rattle.std.proofs.lemmas.Iterator.{YieldsList-from_slice}
+use Rattle.std.proofs.lemmas.Iterator.Search.{position_from_yields_List}
+use borrow.Author.Tests.{tests}
+use Rattle.bank.specs.Fields.{is_printable}
+use Rattle.bank.proofs.Texts.{searched}
 use Rattle.bank.proofs.luminaire_write.first_not_printable.Goals as goal
 
-pub loop-i-init : goal.loop-i-init
-unfolding first_not_printable
-loop-i-init c = refl
-
-pub returns-then-not-is_printable : goal.returns-then-not-is_printable
-returns-then-not-is_printable c =
-    let outside = sym c.is_printable.ensures ∙ c.if-not-is_printable.true in
-    sym (found c.args.text.now c.loop-i.i c.loop-i.invariant c.loop-i-test.true outside)
-
-pub loop-i-preserved : goal.loop-i-preserved
-loop-i-preserved c =
-    let inside = sym c.is_printable.ensures ∙ c.if-not-is_printable.false in
-    passed_byte c.args.text.now c.loop-i.i c.loop-i.invariant c.loop-i-test.true inside
+pub returns : goal.returns
+returns c =
+    let text = c.args.text.now in
+    position_from_yields_List (λ b. not (is_printable b)) _ _ _ c.position.ensures.ran (YieldsList-from_slice text cc) (λ x b q k. search (rules, tests))
+    ∙ searched text

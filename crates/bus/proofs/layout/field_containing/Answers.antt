@@ -1,26 +1,18 @@
--- `bus::layout::field_containing` meets its contract, by its invariant.
+-- `bus::layout::field_containing` meets its contract: the search along the map gives the first field that holds the byte.
 -- Assumes nothing.
-use Rattle.std.proofs.Common.{sym, ap, ◌∙◌}
+use Rattle.std.proofs.Common.{ap, ◌∙◌, rules}
+use borrow.Author.Tests.{tests}
+use Rattle.std.proofs.lemmas.Iterator.{YieldsList-from_slice}
+use Rattle.std.proofs.lemmas.Iterator.Search.{find_from_yields_List}
 use Rattle.bus.specs.Maps.{holds, first_with}
-use Rattle.bus.proofs.Lists.{found, passed, ended}
+use Rattle.bus.proofs.Lists.{find_first}
 use Rattle.bus.proofs.layout.field_containing.Goals as goal
-
-pub returns-then-holds : goal.returns-then-holds
-returns-then-holds c =
-    let fs = c.bank_field_map-field-items.result.now in
-    sym (found (holds c.args.offset) fs c.loop-field.field-index _ c.loop-field-test.true (sym c.holds.ensures ∙ c.if-holds.true))
-    ∙ c.loop-field.invariant
-    ∙ ap (first_with (holds c.args.offset)) c.bank_field_map-field-items.ensures
-
-pub loop-field-preserved : goal.loop-field-preserved
-loop-field-preserved c =
-    let fs = c.bank_field_map-field-items.result.now in
-    sym (passed (holds c.args.offset) fs c.loop-field.field-index _ c.loop-field-test.true (sym c.holds.ensures ∙ c.if-holds.false))
-    ∙ c.loop-field.invariant
 
 pub returns : goal.returns
 returns c =
-    let fs = c.bank_field_map-field-items.result.now in
-    sym (ended (holds c.args.offset) fs c.loop-field.field-index c.loop-field-test.false)
-    ∙ c.loop-field.invariant
-    ∙ ap (first_with (holds c.args.offset)) c.bank_field_map-field-items.ensures
+    let o = c.args.offset in
+    let fs = c.bank_field_map.result.now in
+    c.copied.ensures
+    ∙ find_from_yields_List (holds o) _ _ _ c.find.ensures.ran (YieldsList-from_slice fs cc) (λ x b q k. search (rules, tests))
+    ∙ find_first (holds o) fs
+    ∙ ap (first_with (holds o)) c.bank_field_map.ensures

@@ -8,23 +8,23 @@ use Rattle.records.proofs.luminaire_write.lay_write.Goals as goal
 use Rattle.records.proofs.luminaire_write.lay_write.Goals.{After-as_slice-stage-items}
 
 -- the stages that the loop goes over
-items_are : (c : After-as_slice-stage-items) → (let a = c.args in c.as_slice-stage-items.result.now ≡ stages_of a.index a.field (length a.bytes.now))
+items_are : (c : After-as_slice-stage-items) → (let a = c.args in c.as_slice-stage-items.result.now ≡ stages_of a.row.index a.row.field (length a.bytes.now))
 items_are c = c.as_slice-stage-items.ensures ∙ c.stages_of-stages.ensures
 
 pub lay_stage-requires-clause-in_bank : goal.lay_stage-requires-clause-in_bank
 lay_stage-requires-clause-in_bank c =
     let a = c.args in
     let items = items_are (goal.at.lay_stage-requires-clause-in_bank c).After-as_slice-stage-items in
-    stage_in a.index a.field a.bytes.now c.requires.fits items c.loop-stage.stage-index _ c.loop-stage-test.true c.bytes.ensures (within_bank a.index c.requires.in_table).ends
+    stage_in a.row.index a.row.field a.bytes.now c.requires.fits items c.loop-stage.stage-index _ c.loop-stage-test.true c.bytes.ensures (within_bank a.row.index a.row.in_table).ends
 
 pub lay_stage-requires-clause-room : goal.lay_stage-requires-clause-room
 lay_stage-requires-clause-room c =
     let a = c.args in
     let items = items_are (goal.at.lay_stage-requires-clause-room c).After-as_slice-stage-items in
-    stage_room a.index a.field a.bytes.now c.requires.fits items c.loop-stage.stage-index _ c.loop-stage-test.true c.bytes.ensures a.stores.now c.loop-stage.invariant c.requires.room
+    stage_room a.row.index a.row.field a.bytes.now c.requires.fits items c.loop-stage.stage-index _ c.loop-stage-test.true c.bytes.ensures a.stores.now c.loop-stage.invariant c.requires.room
 
 pub loop-stage-preserved : goal.loop-stage-preserved
 loop-stage-preserved c =
     let a = c.args in
     let items = items_are (goal.at.loop-stage-preserved c).After-as_slice-stage-items in
-    stage_next a.index a.field a.bytes.now c.requires.fits items c.loop-stage.stage-index _ c.loop-stage-test.true c.bytes.ensures a.stores.now c.loop-stage.invariant c.lay_stage.ensures
+    stage_next a.row.index a.row.field a.bytes.now c.requires.fits items c.loop-stage.stage-index _ c.loop-stage-test.true c.bytes.ensures a.stores.now c.loop-stage.invariant c.lay_stage.ensures

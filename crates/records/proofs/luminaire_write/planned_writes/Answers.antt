@@ -21,7 +21,7 @@ loop-index-preserved c =
             few_writes = omega (arith, s.few_writes, w.count-is);
             few_bytes = omega (arith, s.few_bytes, w.used-is, w.len-used.ensures.few);
             laid =
-                rw (w.writes-is, w.bytes-is, w.count-is, w.used-is, w.put_write.ensures, w.put_all.ensures, w.len.ensures.value, w.len-used.ensures.value, w.as_slice.ensures)
+                rw (w.writes-is, w.bytes-is, w.count-is, w.used-is, w.put.ensures, w.put_all.ensures, w.len.ensures.value, w.len-used.ensures.value, w.as_slice.ensures)
                 (own_next a.numbers a.text_field a.text.now s.table i _ c.loop-index-test.true s.laid (sym c.bytes_for.ensures ∙ w.in-Some.is));
           }
       | in_default w ↦

@@ -4,5 +4,5 @@ use native.Mathlib.Omega.{arith}
 use Rattle.records.proofs.Table.{within_bank}
 use Rattle.records.proofs.luminaire_write.stages_of.Goals as goal
 
-pub overflow_add-field : goal.overflow_add-field
-overflow_add-field c = omega (arith, (within_bank c.args.index c.requires).starts)
+pub overflow_add-row : goal.overflow_add-row
+overflow_add-row c = omega (arith, (within_bank c.args.row.index c.args.row.in_table).starts)

@@ -1,5 +1,9 @@
 -- `records::memory_bank_parser::parse_bank1_luminaire` meets its contract, member by member.
 -- Assumes nothing.
+use mathlib.Core.Path.{◌≡◌}
+use borrow.Author.Tests.{tests}
+use Rattle.std.proofs.Common.{rules}
+use Rattle.bank.specs.Writable.{format_in}
 use Rattle.bank.specs.Fields.{luminaire_fields, place_of}
 use Rattle.records.proofs.Luminaire.{from_first}
 use Rattle.records.proofs.memory_bank_parser.parse_bank1_luminaire.Goals as goal
@@ -7,6 +11,7 @@ use Rattle.records.proofs.memory_bank_parser.parse_bank1_luminaire.Goals as goal
 pub returns : goal.returns
 unfolding luminaire_fields place_of
 returns c =
+    let format : c.and_then.result ≡ format_in c.content_format_id-content_format_id.result = search (rules, tests) in
     rw (
       c.number.ensures,
       c.number-2.ensures,
@@ -29,7 +34,7 @@ returns c =
       c.since-from4.ensures.later,
       c.since-from5.ensures.same,
       c.since-from5.ensures.later,
-      c.format_in.ensures,
+      format,
       c.content_format_id-content_format_id.ensures,
       c.of-given.ensures,
     ) (simp from_first)

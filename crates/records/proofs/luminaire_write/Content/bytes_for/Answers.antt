@@ -6,8 +6,8 @@ use Rattle.records.proofs.luminaire_write.Content.bytes_for.Goals as goal
 
 pub number_bytes-requires : goal.number_bytes-requires
 number_bytes-requires c =
-    let f = c.args.field in
-    narrow f.kind c.in-Number.is (within_bank c.args.index c.requires).if_number
+    let r = c.args.row in
+    narrow r.field.kind c.in-Number.is (within_bank r.index r.in_table).if_number
 
 pub text_bytes-requires : goal.text_bytes-requires
-text_bytes-requires c = (within_bank c.args.index c.requires).few
+text_bytes-requires c = (within_bank c.args.row.index c.args.row.in_table).few

@@ -13,7 +13,7 @@ use Rattle.records.proofs.luminaire_write.Plan.check_field.Goals.{After-check_wa
 abbrev checks : (c : After-check_wanted) → List Check
 checks c =
     let a = c.args in
-    if_wanted (wanted_number a.self.numbers a.field.kind) (number_checks a.self.layout a.field)
+    if_wanted (wanted_number a.self.numbers a.row.field.kind) (number_checks a.self.layout a.row.field)
 
 pub returns-in_err-check_wanted : goal.returns-in_err-check_wanted
 returns-in_err-check_wanted c =
