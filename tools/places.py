@@ -30,7 +30,7 @@ POINTS = [
     ("5", "a request with a place in it", r"request: &\[u8\], at: usize"),
     ("5", "numbers, text field and text", r"numbers: LuminaireNumbers, text_field: [\w<>]+, text: &\[u8\]"),
     ("5", "two slices of stores with their count", r"offsets: &mut \[u8\], values: &mut \[u8\], (?:n|count): usize"),
-    ("5", "what is asked of a caller", r"requires \{"),
+    ("5", "what is asked of a caller", r"requires (?:\w+ )?\{"),
     ("6", "a table with its length beside it, and what fills it", r"\[BankField; 28\]|\bUNUSED\b"),
     ("6", "an array with its length beside it", r"len: usize, (?:pub )?\w+: \[|\w+: \[\w+; \w+\], (?:pub )?len: usize"),
     ("6", "parallel slices", r"fields: &mut \[u8\], lens: &mut \[u8\]|calls: &\[u16\], chunks: &\[u8\]|"

@@ -3,7 +3,7 @@ use crate::output::{Output, Put};
 use crate::request::{REQUEST_LEN, Request, Take};
 use bus::{BankValue, ValueWidth};
 
-// By a match, as in main.rt.
+// By a match, as in main.rt; and so is an enum taken, as in request.rt.
 pub(crate) fn answer(number: u8, request: &mut Request, out: &mut Output) {
     match number {
         0x01 => out.put(ValueWidth::take(request).bytes()),

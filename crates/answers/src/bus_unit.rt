@@ -6,7 +6,7 @@ use records::bus_unit::{
 };
 use records::{BusUnitConfiguration, EmergencyGearType, ImplementedParts};
 
-// By a match, as in main.rt.
+// By a match, as in main.rt; and so is an enum taken, as in request.rt.
 pub(crate) fn answer(number: u8, request: &mut Request, out: &mut Output) {
     match number {
         0x60 => out.put(BusUnitConfiguration::from_byte(request.take())),

@@ -18,7 +18,7 @@ pub(crate) const NO_ANSWER: Answer = Answer::Wanting(Ok(Wanted::Chunk(0)));
 // In the place of a chunk's length: the call is wanting. A request has a number there.
 const WANTING: u16 = 0xFFFF;
 
-// A refusal has its number behind this one.
+// A refusal has its number behind this one: an answer in a line is a number.
 const REFUSED: u16 = 512;
 
 // Reads calls to the start of space, as many as there is room for. The chunks stand one behind the other, and a chunk has

@@ -7,7 +7,7 @@ use records::identity::{
 };
 use records::{DeviceIdentity, IdentityCause, IdentityRead};
 
-// By a match, as in main.rt.
+// By a match, as in main.rt; and so is an enum taken, as in request.rt.
 pub(crate) fn answer(number: u8, request: &mut Request, out: &mut Output) {
     match number {
         0x50 => out.put(IdentityRead::of_bank0(request.take())),

@@ -4,7 +4,7 @@ use crate::plan;
 use crate::request::{Request, Take};
 use bank::{Bank1Layout, FieldKind, LuminaireField, LuminaireTextField, NumberRule, Refusal};
 
-// By a match, as in main.rt.
+// By a match, as in main.rt; and so is an enum taken, as in request.rt.
 pub(crate) fn answer(number: u8, request: &mut Request, out: &mut Output) {
     match number {
         0x30 => out.put(LuminaireField::of_index(request.take())),

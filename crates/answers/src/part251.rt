@@ -4,7 +4,7 @@ use crate::request::{Request, Take};
 use bank::{CctReading, LightDistributionType};
 use bus::{LuminaireFormat, TextRegion};
 
-// By a match, as in main.rt.
+// By a match, as in main.rt; and so is an enum taken, as in request.rt.
 pub(crate) fn answer(number: u8, request: &mut Request, out: &mut Output) {
     match number {
         0x20 => out.put(LuminaireFormat::from_content_format_id(request.take())),

@@ -43,7 +43,8 @@ fn handed_back(answer: Answer, before: ReadOut) -> ReadOut
     }
 }
 
-// Makes the calls, each with the read-out last handed back. The answers are stored as far as their slice goes.
+// Makes the calls, each with the read-out last handed back. The answers are stored as far as their slice goes, as
+// `output::put` does, which stands in a crate above.
 pub fn run(out: ReadOut, calls: &[Call], buffer: &mut [u8], answers: &mut [Answer]) -> ReadOut
     ensures last { result ≡ (after chunk_len (state_of out buffer.old) (calls_in calls.now)).out }
     ensures stored { buffer.new ≡ (after chunk_len (state_of out buffer.old) (calls_in calls.now)).buffer }

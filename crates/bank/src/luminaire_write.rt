@@ -244,7 +244,7 @@ impl LuminaireField {
         luminaire_fields().get(index).copied()
     }
 
-    // The place of a text in the table.
+    // The place of a text in the table. By a match and no search: each text has its place, as the promise says.
     pub fn of_text(which: LuminaireTextField) -> Option<usize>
         ensures { result ≡ place_of which }
     {
@@ -378,6 +378,7 @@ impl Bank1Layout {
     }
 }
 
+// The id, in a bank that is read from its first byte.
 fn id_in(header: &[u8]) -> Option<u16>
     ensures { result ≡ id_in header.now }
 {

@@ -274,7 +274,7 @@ pub const BANK_LIGHT_SOURCE_DIAGNOSTICS: u8 = 206;
 
 pub const BANK_LUMINAIRE_MAINTENANCE: u8 = 207;
 
-// The maps: banks 202 to 204 share one, and a bank that is not named has none.
+// The maps: banks 202 to 204 share one, and a bank that is not named has none, which is a map of no field.
 #[derive(Clone, Copy)]
 pub enum BankMap {
     LuminaireInfo,

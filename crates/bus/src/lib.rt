@@ -22,6 +22,7 @@ pub use part251::{
     CONTENT_FORMAT_ID_OFFSET, LuminaireFormat, TextRegion,
 };
 
+// Asked of its callers, each of whom has an exponent below 64: a shift by more has no meaning.
 fn power_of_two(exponent: usize) -> u64
     requires { exponent < 64 }
     ensures { result ≡ 2 ^ exponent }

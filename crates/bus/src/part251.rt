@@ -89,7 +89,7 @@ pub const CCT_OFFSET: u8 = 0x21;
 
 pub const LIGHT_DISTRIBUTION_TYPE_OFFSET: u8 = 0x23;
 
-// IEC 62386-251
+// IEC 62386-251. A constant array's type has its length.
 pub const BANK_LUMINAIRE_INFO_MAP: [BankField; 28] = [
     BankField {
         offset: 0x00,

@@ -87,6 +87,7 @@ impl BusUnitConfiguration {
 }
 
 #[derive(Clone, Copy)]
+// `from_byte` and `raw` keep the Rust's names.
 pub struct ImplementedParts(u8);
 
 impl ImplementedParts {

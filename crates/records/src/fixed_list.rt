@@ -43,6 +43,7 @@ impl<T: Copy, const N: usize> FixedList<T, N> {
         &self.items[..self.len]
     }
 
+    // For a caller that knows that there is room.
     pub(crate) fn push(&mut self, item: T)
         requires { length self.old < N }
         ensures { self.new ≡ self.old ++ item ∷ [] }
@@ -51,6 +52,7 @@ impl<T: Copy, const N: usize> FixedList<T, N> {
         self.len += 1;
     }
 
+    // The same, for several.
     pub(crate) fn extend(&mut self, items: &[T])
         requires { length self.old + length items.now ≤ N }
         ensures { self.new ≡ self.old ++ items.now }

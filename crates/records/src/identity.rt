@@ -95,7 +95,7 @@ impl IdentityRead {
     }
 }
 
-// So many bytes from an offset of bank 0 on.
+// So many bytes from an offset of bank 0 on, all of them in the window, whose length its caller has tested.
 fn within(window: &[u8], offset: u8, len: usize) -> &[u8]
     requires { (3 ≤ offset) × (offset - 3 + len ≤ length window.now) }
     ensures { result.now ≡ take len (drop (offset - 3) window.now) }

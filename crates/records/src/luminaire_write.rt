@@ -243,7 +243,7 @@ impl FieldWrite {
 // The bytes of a write: no field has more than 60.
 type WriteBytes = FixedList<u8, 60>;
 
-// The low bytes of a number, high byte first.
+// The low bytes of a number, high byte first: four at most, as a `u32` has.
 fn number_bytes(value: u32, len: u8) -> WriteBytes
     requires { len ≤ 4 }
     ensures { result ≡ low_bytes len value }
@@ -286,7 +286,7 @@ pub struct Store {
 // The stores of a plan: none has more than 203.
 type StoreList = FixedList<Store, 256>;
 
-// Lays the stores of a stage, one for each byte.
+// Lays the stores of a stage, one for each byte, where bank and list have room for it.
 fn lay_stage(offset: u8, bytes: &[u8], stores: &mut StoreList)
     requires in_bank { offset + length bytes.now ≤ 256 }
     requires room { length stores.old + length bytes.now ≤ 256 }

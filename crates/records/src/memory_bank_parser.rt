@@ -85,7 +85,7 @@ impl<'a> Given<'a> {
         Some(field[0])
     }
 
-    // The number of an identity, unless its bytes are all FF hex.
+    // The number of an identity, unless its bytes are all FF hex: eight at most, as a `u64` has.
     fn number(self, offset: u8, len: usize) -> Option<u64>
         requires { len ≤ 8 }
         ensures { result ≡ number_at self.entry.start_offset self.entry.bytes.now offset len }
@@ -111,7 +111,7 @@ impl<'a> Given<'a> {
         scale_of(self.byte(offset as usize)?)
     }
 
-    // A flag, and behind it its counter.
+    // A flag, and behind it its counter, for which there is an offset.
     fn condition(self, flag_offset: u8) -> ParsedCondition
         requires { flag_offset < 255 }
         ensures { result ≡ condition self.entry.start_offset self.entry.bytes.now flag_offset }
@@ -130,6 +130,7 @@ impl<'a> Given<'a> {
         Some(escape_into_bounded(&raw[..text_len(raw)]))
     }
 
+    // The id, wherever the given bytes start.
     fn content_format_id(self) -> Option<u16>
         ensures { result ≡ option_map number (field_at self.entry.start_offset self.entry.bytes.now 0x11 2) }
     {
@@ -280,7 +281,7 @@ fn luminaire_value(raw: u32, rule: NumberRule, format: LuminaireFormat) -> Lumin
 fn says209(raw: u32, rule: NumberRule) -> bool
     ensures { result ≡ says209 rule raw }
 {
-    matches!(rule, NumberRule::Cct) && raw == 65_534
+    rule == NumberRule::Cct && raw == 65_534
 }
 
 // What was given of bank 1, and the format in which its fields are read.
@@ -302,7 +303,7 @@ impl<'a> LuminaireBank<'a> {
         }
     }
 
-    // What a number of so many bytes says.
+    // What a number of so many bytes says: four at most, as a `u32` has.
     fn number(self, offset: u8, len: usize, rule: NumberRule) -> Option<LuminaireValue>
         requires { len ≤ 4 }
         ensures { result ≡ number_read rule self.entry.format (field_at self.entry.given.start_offset self.entry.given.bytes.now offset len) }

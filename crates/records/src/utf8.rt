@@ -22,7 +22,7 @@ pub(crate) fn sequence_len(bytes: &[u8]) -> Option<usize>
     }
 }
 
-// The length, where the second byte is from low to high and each further one from 80 to BF hex.
+// The length, two at least, where the second byte is from low to high and each further one from 80 to BF hex.
 fn followed(bytes: &[u8], len: usize, low: u8, high: u8) -> Option<usize>
     requires { 2 ≤ len }
     ensures { result ≡ then_some (follow (to low high ∷ replicate (len - 2) tail) (drop 1 bytes.now)) len }

@@ -25,7 +25,7 @@ struct File<'a> {
 }
 
 impl<'a> File<'a> {
-    // The number that so many bytes of the head make, high byte first.
+    // The number that so many bytes of the head make, high byte first: four at most, as a `u32` has.
     fn number(self, at: usize, len: usize) -> u32
         requires { (len ≤ 4) × (at + len ≤ 31) }
         ensures value { result ≡ number (take len (drop at self.entry.bytes.now)) }

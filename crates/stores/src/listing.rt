@@ -25,6 +25,7 @@ const STORES_WORD: &[u8] = b"stores ";
 
 const REFUSED_WORD: &[u8] = b"refused ";
 
+// Below 10, as a remainder by 10 is.
 fn decimal_digit(n: usize) -> u8
     requires { n < 10 }
     ensures { result ≡ digit n }
@@ -32,7 +33,8 @@ fn decimal_digit(n: usize) -> u8
     b'0' + n as u8
 }
 
-// Puts a number in decimal behind a text. `write!` answers a result, and here nothing can fail.
+// Puts a number in decimal behind a text, and as the others here asks for the room that it takes. `write!` answers a result,
+// and here nothing can fail.
 fn put_decimal(text: &mut Text, n: usize)
     requires { (n < 1000) × (length text.old + 3 ≤ 4096) }
     ensures { text.new ≡ text.old ++ decimal n }
