@@ -7,13 +7,15 @@ ghost use Rattle.std.specs.Io.KnownBytes.{Appends, Consumes, IsAtEnd};
 use std::io;
 use std::io::{ErrorKind, Read, Write};
 
-// Reads until the slice is full or the input ends, and answers how many bytes were read. Std's `read_exact` takes no shorter
-// input, and its `read_to_end` a `Vec`. The loop counts its turns up to a number that no input uses up, since a proved loop
-// has to end.
+// Reads until the slice is full or the input ends, and answers how many bytes were read; after an error just the first bytes
+// of the slice, or none, were read. What stands behind those is the reader's: std's `read` says nothing of it. Std's
+// `read_exact` takes no shorter input, and its `read_to_end` a `Vec`. The loop counts its turns up to a number that no input
+// uses up, since a proved loop has to end.
 pub fn read_full<R: Read>(input: &mut R, block: &mut [u8]) -> io::Result<usize>
     ensures within { IfOk result (λ n. n ≤ length block.new) }
     ensures bytes { IfOk result (λ n. Consumes (R.remaining input.old) (R.remaining input.new) (take n block.new)) }
     ensures end { IfOk result (λ n. n < length block.new → IsAtEnd (R.remaining input.new)) }
+    ensures err { OnErr result ((k : ℕ) × Consumes (R.remaining input.old) (R.remaining input.new) (take k block.new)) }
 {
     let mut n = 0;
     for _ in 0..u64::MAX {
