@@ -83,6 +83,33 @@ pub struct LuminaireField {
     pub kind: FieldKind,
 }
 
+// A number's field: where it is, how long, from which format on, its mask bit and its rule.
+macro_rules! number {
+    ($offset:expr, $len:literal, $since:ident, $patch:literal, $rule:ident) => {
+        LuminaireField {
+            offset: $offset,
+            len: $len,
+            since: LuminaireFormat::$since,
+            kind: FieldKind::Number {
+                patch: $patch,
+                rule: NumberRule::$rule,
+            },
+        }
+    };
+}
+
+// A text's field: its region, from which format on, and which text.
+macro_rules! text {
+    ($region:ident, $since:ident, $which:ident) => {
+        LuminaireField {
+            offset: $region.offset,
+            len: $region.len,
+            since: LuminaireFormat::$since,
+            kind: FieldKind::Text(LuminaireTextField::$which),
+        }
+    };
+}
+
 // DiiA 251 §9.2.5
 // IEC 62386-251 Table 1
 pub const LUMINAIRE_FIELDS: [LuminaireField; 18] = [
@@ -92,141 +119,29 @@ pub const LUMINAIRE_FIELDS: [LuminaireField; 18] = [
         since: LuminaireFormat::V3,
         kind: FieldKind::LayoutId,
     },
-    LuminaireField {
-        offset: YEAR_OFFSET,
-        len: 1,
-        since: LuminaireFormat::V3,
-        kind: FieldKind::Number {
-            patch: 0x0001,
-            rule: NumberRule::Year,
-        },
-    },
-    LuminaireField {
-        offset: WEEK_OFFSET,
-        len: 1,
-        since: LuminaireFormat::V3,
-        kind: FieldKind::Number {
-            patch: 0x0002,
-            rule: NumberRule::Week,
-        },
-    },
-    LuminaireField {
-        offset: NOMINAL_INPUT_POWER_OFFSET,
-        len: 2,
-        since: LuminaireFormat::V3,
-        kind: FieldKind::Number {
-            patch: 0x0004,
-            rule: NumberRule::Power,
-        },
-    },
-    LuminaireField {
-        offset: POWER_AT_MINIMUM_OFFSET,
-        len: 2,
-        since: LuminaireFormat::V3,
-        kind: FieldKind::Number {
-            patch: 0x0008,
-            rule: NumberRule::Power,
-        },
-    },
-    LuminaireField {
-        offset: NOMINAL_MIN_AC_VOLTAGE_OFFSET,
-        len: 2,
-        since: LuminaireFormat::V3,
-        kind: FieldKind::Number {
-            patch: 0x0010,
-            rule: NumberRule::MainsVoltage,
-        },
-    },
-    LuminaireField {
-        offset: NOMINAL_MAX_AC_VOLTAGE_OFFSET,
-        len: 2,
-        since: LuminaireFormat::V3,
-        kind: FieldKind::Number {
-            patch: 0x0020,
-            rule: NumberRule::MainsVoltage,
-        },
-    },
-    LuminaireField {
-        offset: NOMINAL_LIGHT_OUTPUT_OFFSET,
-        len: 3,
-        since: LuminaireFormat::V3,
-        kind: FieldKind::Number {
-            patch: 0x0040,
-            rule: NumberRule::LightOutput,
-        },
-    },
-    LuminaireField {
-        offset: CRI_OFFSET,
-        len: 1,
-        since: LuminaireFormat::V3,
-        kind: FieldKind::Number {
-            patch: 0x0080,
-            rule: NumberRule::Cri,
-        },
-    },
-    LuminaireField {
-        offset: CCT_OFFSET,
-        len: 2,
-        since: LuminaireFormat::V3,
-        kind: FieldKind::Number {
-            patch: 0x0100,
-            rule: NumberRule::Cct,
-        },
-    },
-    LuminaireField {
-        offset: LIGHT_DISTRIBUTION_TYPE_OFFSET,
-        len: 1,
-        since: LuminaireFormat::V3,
-        kind: FieldKind::Number {
-            patch: 0x0200,
-            rule: NumberRule::LightDistributionType,
-        },
-    },
-    LuminaireField {
-        offset: LUMINAIRE_COLOUR.offset,
-        len: LUMINAIRE_COLOUR.len,
-        since: LuminaireFormat::V3,
-        kind: FieldKind::Text(LuminaireTextField::LuminaireColour),
-    },
-    LuminaireField {
-        offset: LUMINAIRE_IDENTIFICATION.offset,
-        len: LUMINAIRE_IDENTIFICATION.len,
-        since: LuminaireFormat::V3,
-        kind: FieldKind::Text(LuminaireTextField::LuminaireIdentification),
-    },
-    LuminaireField {
-        offset: LIGHT_DISTRIBUTION.offset,
-        len: LIGHT_DISTRIBUTION.len,
-        since: LuminaireFormat::V4,
-        kind: FieldKind::Text(LuminaireTextField::LightDistribution),
-    },
-    LuminaireField {
-        offset: OEM_NAME.offset,
-        len: OEM_NAME.len,
-        since: LuminaireFormat::V5,
-        kind: FieldKind::Text(LuminaireTextField::OemName),
-    },
-    LuminaireField {
-        offset: CUSTOMER_STOCKING_NUMBER.offset,
-        len: CUSTOMER_STOCKING_NUMBER.len,
-        since: LuminaireFormat::V5,
-        kind: FieldKind::Text(LuminaireTextField::CustomerStockingNumber),
-    },
-    LuminaireField {
-        offset: LAMP_CURRENT_OFFSET,
-        len: 2,
-        since: LuminaireFormat::V5,
-        kind: FieldKind::Number {
-            patch: 0x0400,
-            rule: NumberRule::LampCurrent,
-        },
-    },
-    LuminaireField {
-        offset: FREE_USE.offset,
-        len: FREE_USE.len,
-        since: LuminaireFormat::V5,
-        kind: FieldKind::Text(LuminaireTextField::FreeUse),
-    },
+    number!(YEAR_OFFSET, 1, V3, 0x0001, Year),
+    number!(WEEK_OFFSET, 1, V3, 0x0002, Week),
+    number!(NOMINAL_INPUT_POWER_OFFSET, 2, V3, 0x0004, Power),
+    number!(POWER_AT_MINIMUM_OFFSET, 2, V3, 0x0008, Power),
+    number!(NOMINAL_MIN_AC_VOLTAGE_OFFSET, 2, V3, 0x0010, MainsVoltage),
+    number!(NOMINAL_MAX_AC_VOLTAGE_OFFSET, 2, V3, 0x0020, MainsVoltage),
+    number!(NOMINAL_LIGHT_OUTPUT_OFFSET, 3, V3, 0x0040, LightOutput),
+    number!(CRI_OFFSET, 1, V3, 0x0080, Cri),
+    number!(CCT_OFFSET, 2, V3, 0x0100, Cct),
+    number!(
+        LIGHT_DISTRIBUTION_TYPE_OFFSET,
+        1,
+        V3,
+        0x0200,
+        LightDistributionType
+    ),
+    text!(LUMINAIRE_COLOUR, V3, LuminaireColour),
+    text!(LUMINAIRE_IDENTIFICATION, V3, LuminaireIdentification),
+    text!(LIGHT_DISTRIBUTION, V4, LightDistribution),
+    text!(OEM_NAME, V5, OemName),
+    text!(CUSTOMER_STOCKING_NUMBER, V5, CustomerStockingNumber),
+    number!(LAMP_CURRENT_OFFSET, 2, V5, 0x0400, LampCurrent),
+    text!(FREE_USE, V5, FreeUse),
 ];
 
 // The table, for whoever reads the contracts: its content is a promise.

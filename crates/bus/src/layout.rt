@@ -21,52 +21,40 @@ impl BankField {
     }
 }
 
+// A field by its offset and width, for the tables.
+macro_rules! field {
+    ($offset:expr, $width:ident) => {
+        BankField {
+            offset: $offset,
+            width: ValueWidth::$width,
+        }
+    };
+}
+
+pub(crate) use field;
+
 pub const BANK_META_LEN: u16 = 3;
 
 pub const BANK_LOCK_BYTE: u8 = 0x02;
 
 pub const BANK_VERSION_OFFSET: u8 = 0x03;
 
-const META_0: BankField = BankField {
-    offset: 0x00,
-    width: ValueWidth::U8,
-};
+const META_0: BankField = field!(0x00, U8);
 
-const META_1: BankField = BankField {
-    offset: 0x01,
-    width: ValueWidth::U8,
-};
+const META_1: BankField = field!(0x01, U8);
 
-const META_2: BankField = BankField {
-    offset: 0x02,
-    width: ValueWidth::U8,
-};
+const META_2: BankField = field!(0x02, U8);
 
 // DiiA 252 §9.2.9, §9.2.10, §9.2.11
 pub const BANK_ENERGY: [BankField; 8] = [
     META_0,
     META_1,
     META_2,
-    BankField {
-        offset: 0x03,
-        width: ValueWidth::U8,
-    },
-    BankField {
-        offset: 0x04,
-        width: ValueWidth::I8,
-    },
-    BankField {
-        offset: 0x05,
-        width: ValueWidth::U48,
-    },
-    BankField {
-        offset: 0x0B,
-        width: ValueWidth::I8,
-    },
-    BankField {
-        offset: 0x0C,
-        width: ValueWidth::U32,
-    },
+    field!(0x03, U8),
+    field!(0x04, I8),
+    field!(0x05, U48),
+    field!(0x0B, I8),
+    field!(0x0C, U32),
 ];
 
 // DiiA 253 §9.2.16
@@ -74,86 +62,26 @@ pub const BANK_GEAR_DIAGNOSTICS: [BankField; 23] = [
     META_0,
     META_1,
     META_2,
-    BankField {
-        offset: 0x03,
-        width: ValueWidth::U8,
-    },
-    BankField {
-        offset: 0x04,
-        width: ValueWidth::U32,
-    },
-    BankField {
-        offset: 0x08,
-        width: ValueWidth::U24,
-    },
-    BankField {
-        offset: 0x0B,
-        width: ValueWidth::U16,
-    },
-    BankField {
-        offset: 0x0D,
-        width: ValueWidth::U8,
-    },
-    BankField {
-        offset: 0x0E,
-        width: ValueWidth::U8,
-    },
-    BankField {
-        offset: 0x0F,
-        width: ValueWidth::U8,
-    },
-    BankField {
-        offset: 0x10,
-        width: ValueWidth::U8,
-    },
-    BankField {
-        offset: 0x11,
-        width: ValueWidth::U8,
-    },
-    BankField {
-        offset: 0x12,
-        width: ValueWidth::U8,
-    },
-    BankField {
-        offset: 0x13,
-        width: ValueWidth::U8,
-    },
-    BankField {
-        offset: 0x14,
-        width: ValueWidth::U8,
-    },
-    BankField {
-        offset: 0x15,
-        width: ValueWidth::U8,
-    },
-    BankField {
-        offset: 0x16,
-        width: ValueWidth::U8,
-    },
-    BankField {
-        offset: 0x17,
-        width: ValueWidth::U8,
-    },
-    BankField {
-        offset: 0x18,
-        width: ValueWidth::U8,
-    },
-    BankField {
-        offset: 0x19,
-        width: ValueWidth::U8,
-    },
-    BankField {
-        offset: 0x1A,
-        width: ValueWidth::U8,
-    },
-    BankField {
-        offset: 0x1B,
-        width: ValueWidth::U8,
-    },
-    BankField {
-        offset: 0x1C,
-        width: ValueWidth::U8,
-    },
+    field!(0x03, U8),
+    field!(0x04, U32),
+    field!(0x08, U24),
+    field!(0x0B, U16),
+    field!(0x0D, U8),
+    field!(0x0E, U8),
+    field!(0x0F, U8),
+    field!(0x10, U8),
+    field!(0x11, U8),
+    field!(0x12, U8),
+    field!(0x13, U8),
+    field!(0x14, U8),
+    field!(0x15, U8),
+    field!(0x16, U8),
+    field!(0x17, U8),
+    field!(0x18, U8),
+    field!(0x19, U8),
+    field!(0x1A, U8),
+    field!(0x1B, U8),
+    field!(0x1C, U8),
 ];
 
 // DiiA 253 §9.2.17
@@ -161,78 +89,24 @@ pub const BANK_SOURCE_DIAGNOSTICS: [BankField; 21] = [
     META_0,
     META_1,
     META_2,
-    BankField {
-        offset: 0x03,
-        width: ValueWidth::U8,
-    },
-    BankField {
-        offset: 0x04,
-        width: ValueWidth::U24,
-    },
-    BankField {
-        offset: 0x07,
-        width: ValueWidth::U24,
-    },
-    BankField {
-        offset: 0x0A,
-        width: ValueWidth::U32,
-    },
-    BankField {
-        offset: 0x0E,
-        width: ValueWidth::U32,
-    },
-    BankField {
-        offset: 0x12,
-        width: ValueWidth::U16,
-    },
-    BankField {
-        offset: 0x14,
-        width: ValueWidth::U16,
-    },
-    BankField {
-        offset: 0x16,
-        width: ValueWidth::U8,
-    },
-    BankField {
-        offset: 0x17,
-        width: ValueWidth::U8,
-    },
-    BankField {
-        offset: 0x18,
-        width: ValueWidth::U8,
-    },
-    BankField {
-        offset: 0x19,
-        width: ValueWidth::U8,
-    },
-    BankField {
-        offset: 0x1A,
-        width: ValueWidth::U8,
-    },
-    BankField {
-        offset: 0x1B,
-        width: ValueWidth::U8,
-    },
-    BankField {
-        offset: 0x1C,
-        width: ValueWidth::U8,
-    },
-    BankField {
-        offset: 0x1D,
-        width: ValueWidth::U8,
-    },
-    BankField {
-        offset: 0x1E,
-        width: ValueWidth::U8,
-    },
-    BankField {
-        offset: 0x1F,
-        width: ValueWidth::U8,
-    },
-    BankField {
-        offset: 0x20,
-        width: ValueWidth::U8,
-    },
+    field!(0x03, U8),
+    field!(0x04, U24),
+    field!(0x07, U24),
+    field!(0x0A, U32),
+    field!(0x0E, U32),
+    field!(0x12, U16),
+    field!(0x14, U16),
+    field!(0x16, U8),
+    field!(0x17, U8),
+    field!(0x18, U8),
+    field!(0x19, U8),
+    field!(0x1A, U8),
+    field!(0x1B, U8),
+    field!(0x1C, U8),
+    field!(0x1D, U8),
+    field!(0x1E, U8),
+    field!(0x1F, U8),
+    field!(0x20, U8),
 ];
 
 // DiiA 253 §9.2.18
@@ -240,22 +114,10 @@ pub const BANK_LUMINAIRE: [BankField; 7] = [
     META_0,
     META_1,
     META_2,
-    BankField {
-        offset: 0x03,
-        width: ValueWidth::U8,
-    },
-    BankField {
-        offset: 0x04,
-        width: ValueWidth::U8,
-    },
-    BankField {
-        offset: 0x05,
-        width: ValueWidth::U8,
-    },
-    BankField {
-        offset: 0x06,
-        width: ValueWidth::U16,
-    },
+    field!(0x03, U8),
+    field!(0x04, U8),
+    field!(0x05, U8),
+    field!(0x06, U16),
 ];
 
 pub const DEVICE_TYPE_ENERGY: u8 = 51;

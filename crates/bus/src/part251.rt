@@ -3,7 +3,7 @@ ghost use Rattle.std.specs.Prelude.{◌≡◌};
 ghost use Rattle.bus.specs.Part251.{id_of, format_of, min_last_offset, has_light_distribution, has_extended_block};
 
 use crate::ValueWidth;
-use crate::layout::BankField;
+use crate::layout::{BankField, field};
 
 pub const BANK_LUMINAIRE_INFO: u8 = 1;
 
@@ -91,118 +91,34 @@ pub const LIGHT_DISTRIBUTION_TYPE_OFFSET: u8 = 0x23;
 
 // IEC 62386-251. A constant array's type has its length.
 pub const BANK_LUMINAIRE_INFO_MAP: [BankField; 28] = [
-    BankField {
-        offset: 0x00,
-        width: ValueWidth::U8,
-    },
-    BankField {
-        offset: 0x01,
-        width: ValueWidth::U8,
-    },
-    BankField {
-        offset: 0x02,
-        width: ValueWidth::U8,
-    },
-    BankField {
-        offset: 0x03,
-        width: ValueWidth::U8,
-    },
-    BankField {
-        offset: 0x04,
-        width: ValueWidth::U8,
-    },
-    BankField {
-        offset: 0x05,
-        width: ValueWidth::U8,
-    },
-    BankField {
-        offset: 0x06,
-        width: ValueWidth::U8,
-    },
-    BankField {
-        offset: 0x07,
-        width: ValueWidth::U8,
-    },
-    BankField {
-        offset: 0x08,
-        width: ValueWidth::U8,
-    },
-    BankField {
-        offset: 0x09,
-        width: ValueWidth::U8,
-    },
-    BankField {
-        offset: 0x0A,
-        width: ValueWidth::U8,
-    },
-    BankField {
-        offset: 0x0B,
-        width: ValueWidth::U8,
-    },
-    BankField {
-        offset: 0x0C,
-        width: ValueWidth::U8,
-    },
-    BankField {
-        offset: 0x0D,
-        width: ValueWidth::U8,
-    },
-    BankField {
-        offset: 0x0E,
-        width: ValueWidth::U8,
-    },
-    BankField {
-        offset: 0x0F,
-        width: ValueWidth::U8,
-    },
-    BankField {
-        offset: 0x10,
-        width: ValueWidth::U8,
-    },
-    BankField {
-        offset: CONTENT_FORMAT_ID_OFFSET,
-        width: ValueWidth::U16,
-    },
-    BankField {
-        offset: YEAR_OFFSET,
-        width: ValueWidth::U8,
-    },
-    BankField {
-        offset: WEEK_OFFSET,
-        width: ValueWidth::U8,
-    },
-    BankField {
-        offset: NOMINAL_INPUT_POWER_OFFSET,
-        width: ValueWidth::U16,
-    },
-    BankField {
-        offset: POWER_AT_MINIMUM_OFFSET,
-        width: ValueWidth::U16,
-    },
-    BankField {
-        offset: NOMINAL_MIN_AC_VOLTAGE_OFFSET,
-        width: ValueWidth::U16,
-    },
-    BankField {
-        offset: NOMINAL_MAX_AC_VOLTAGE_OFFSET,
-        width: ValueWidth::U16,
-    },
-    BankField {
-        offset: NOMINAL_LIGHT_OUTPUT_OFFSET,
-        width: ValueWidth::U24,
-    },
-    BankField {
-        offset: CRI_OFFSET,
-        width: ValueWidth::U8,
-    },
-    BankField {
-        offset: CCT_OFFSET,
-        width: ValueWidth::U16,
-    },
-    BankField {
-        offset: LIGHT_DISTRIBUTION_TYPE_OFFSET,
-        width: ValueWidth::U8,
-    },
+    field!(0x00, U8),
+    field!(0x01, U8),
+    field!(0x02, U8),
+    field!(0x03, U8),
+    field!(0x04, U8),
+    field!(0x05, U8),
+    field!(0x06, U8),
+    field!(0x07, U8),
+    field!(0x08, U8),
+    field!(0x09, U8),
+    field!(0x0A, U8),
+    field!(0x0B, U8),
+    field!(0x0C, U8),
+    field!(0x0D, U8),
+    field!(0x0E, U8),
+    field!(0x0F, U8),
+    field!(0x10, U8),
+    field!(CONTENT_FORMAT_ID_OFFSET, U16),
+    field!(YEAR_OFFSET, U8),
+    field!(WEEK_OFFSET, U8),
+    field!(NOMINAL_INPUT_POWER_OFFSET, U16),
+    field!(POWER_AT_MINIMUM_OFFSET, U16),
+    field!(NOMINAL_MIN_AC_VOLTAGE_OFFSET, U16),
+    field!(NOMINAL_MAX_AC_VOLTAGE_OFFSET, U16),
+    field!(NOMINAL_LIGHT_OUTPUT_OFFSET, U24),
+    field!(CRI_OFFSET, U8),
+    field!(CCT_OFFSET, U16),
+    field!(LIGHT_DISTRIBUTION_TYPE_OFFSET, U8),
 ];
 
 #[derive(Clone, Copy)]

@@ -6,7 +6,7 @@ use Rattle.std.proofs.KnownBytes.{Consumes-kept}
 use borrow.Rule.Slice.PartMut.{put_mid, take_put}
 use Rattle.streams.proofs.Bytes.{filled}
 use Rattle.streams.proofs.read_full.Goals as goal
-use Rattle.streams.proofs.read_full.Goals.{in-Ok, in-Err+else-ne}
+use Rattle.streams.proofs.read_full.Goals.{in-Ok, in-Err}
 
 pub loop-preserved : goal.loop-preserved
 loop-preserved g c =
@@ -23,7 +23,7 @@ loop-preserved g c =
         omega (arith, long, room, w.n-is, before.1, w.in-Ok.ensures.bound.0),
         rw w.n-is (filled _ _ _ block part _ n _ before.1 w.in-Ok.ensures.bound.0 before.2 w.in-Ok.ensures.bytes.0),
       )
-      | in-Err+else-ne w ↦ (
+      | in-Err w ↦ (
         search rules,
         omega (arith, long, w.n-is, before.1),
         rw w.n-is (subst (Consumes _ _) (sym (take_put n _ block part before.1)) (Consumes-kept _ _ _ _ before.2 w.in-Err.ensures.bytes)),

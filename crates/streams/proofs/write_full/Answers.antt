@@ -4,7 +4,7 @@ use Rattle.std.proofs.Common.{arith}
 use Rattle.std.proofs.KnownBytes.{Appends-kept}
 use Rattle.streams.proofs.Bytes.{appended}
 use Rattle.streams.proofs.write_full.Goals as goal
-use Rattle.streams.proofs.write_full.Goals.{in-Ok, in-Err+else-ne}
+use Rattle.streams.proofs.write_full.Goals.{in-Ok, in-Err}
 
 pub loop-preserved : goal.loop-preserved
 loop-preserved g c =
@@ -14,7 +14,7 @@ loop-preserved g c =
         omega (arith, w.n-is, before.0, w.in-Ok.ensures.bound),
         rw w.n-is (appended _ _ _ c.args.text.now c.loop.n _ before.1 w.in-Ok.ensures.bytes),
       )
-      | in-Err+else-ne w ↦ (
+      | in-Err w ↦ (
         omega (arith, w.n-is, before.0),
         rw w.n-is (Appends-kept _ _ _ _ before.1 w.in-Err.ensures.bytes),
       )
