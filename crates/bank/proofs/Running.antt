@@ -10,7 +10,7 @@ use Rattle.bus.proofs.Lists.{sets_laid}
 use Rattle.bank.specs.declared.call_list.Answer.{Answer}
 use Rattle.bank.specs.declared.call_list.Call.{Call as LentCall}
 use Rattle.bank.specs.declared.call_list.Call as lent
-use Rattle.bank.specs.Chunk.{chunk_len}
+use Rattle.bank.specs.ReadOut.{rule_of}
 use Rattle.bank.specs.Calls.{Call, want, accept, State, after, answers_of, calls_in, Layable, AllHaveBits, EveryListLaid}
 
 -- a call as it is lent
@@ -35,10 +35,10 @@ every_list_laid calls layable = record { lent = map lent_call calls; fits = fitt
 
 -- with the calls that are left, the run ends as it does with all, and stores the same answers
 pub record Ran (start : State) (all : List Call) (answers₀ : List Answer) (s : State) (answers : List Answer) (count : ℕ) (left : List Call) : Type 0 where
-  pub ends : after chunk_len s left ≡ after chunk_len start all
-  pub stores : sets answers count (answers_of chunk_len s left) ≡ sets answers₀ 0 (answers_of chunk_len start all)
+  pub ends : after (rule_of start.out) s left ≡ after (rule_of start.out) start all
+  pub stores : sets answers count (answers_of (rule_of start.out) s left) ≡ sets answers₀ 0 (answers_of (rule_of start.out) start all)
 
 module _ {start : State} {all : List Call} {answers₀ : List Answer} {s : State} {answers : List Answer} {count : ℕ} {left : List Call} where
   -- where no call is left, all answers are laid
-  pub all_stored : Ran start all answers₀ s answers count left → left ≡ [] → answers ≡ laid_into (answers_of chunk_len start all) answers₀
-  all_stored r l = rw l at r.stores ∙ sets_laid (answers_of chunk_len start all) answers₀
+  pub all_stored : Ran start all answers₀ s answers count left → left ≡ [] → answers ≡ laid_into (answers_of (rule_of start.out) start all) answers₀
+  all_stored r l = rw l at r.stores ∙ sets_laid (answers_of (rule_of start.out) start all) answers₀

@@ -1,5 +1,5 @@
 -- 01, "The read-out": what starting, wanting and accepting answer, and what accepting leaves in the lent buffer. The
--- chunk rule is a parameter; the calls use `chunk_len`.
+-- chunk rule is a parameter; the calls use that of the read-out.
 -- Assumes nothing.
 use Rattle.std.specs.Prelude.{◌≡◌, Bool, not, cond, ◌||◌, List, [], ◌∷◌, ◌++◌, ℕ, ◌+◌, ◌-◌, ◌≤◌, eqb, ltb, length, take, drop, Err, Ok, Result}
 use Rattle.bank.specs.declared.refusal.Refusal.{Refusal}
@@ -7,7 +7,7 @@ use Rattle.bank.specs.declared.refusal.Refusal.TheVariants.{BudgetZero, ReadOutI
 use Rattle.bank.specs.declared.read_out.ReadOut.{ReadOut}
 use Rattle.bank.specs.declared.read_out.Wanted.{Wanted}
 use Rattle.bank.specs.Refusal.{Check, ◌when◌, checked}
-use Rattle.bank.specs.Chunk.{ChunkRule, Bounded}
+use Rattle.bank.specs.Chunk.{ChunkRule, chunk_len, Bounded}
 
 -- "A read-out is a bank number, a length 0 to 256 and a next offset from 0."
 abbrev pub fresh : ℕ → ℕ → ReadOut
@@ -16,6 +16,10 @@ fresh bank len = record { bank = bank; length = len; next = 0 }
 -- "a new read-out with its next offset advanced"
 abbrev pub advanced : ReadOut → ℕ → ReadOut
 advanced r n = record { bank = r.bank; length = r.length; next = r.next + n }
+
+-- "The chunk it wants is `chunk_len(bank, next, length − next, budget)`.": the rule of its chunks
+abbrev pub rule_of : ReadOut → ChunkRule
+rule_of r = chunk_len
 
 -- "It says done exactly when next equals length."
 abbrev pub is_done : ReadOut → Bool
@@ -46,7 +50,7 @@ unfoldable pub laid : List ℕ → ℕ → List ℕ → List ℕ
 laid buffer at bytes = take at buffer ++ bytes ++ drop (at + length bytes) buffer
 
 module _ (chunk : ChunkRule) where
-  -- "The chunk it wants is `chunk_len(bank, next, length − next, budget)`."
+  -- the chunk it wants by a rule
   abbrev pub wanted_len : ReadOut → ℕ → ℕ
   wanted_len r budget = chunk r.bank r.next (r.length - r.next) budget
 

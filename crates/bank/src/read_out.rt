@@ -1,8 +1,7 @@
 // A bank read out chunk by chunk: which chunk is next, and where its bytes go.
 ghost use Rattle.std.specs.Prelude.{◌≡◌};
 ghost use Rattle.bank.specs.Refusal.{tested};
-ghost use Rattle.bank.specs.Chunk.{chunk_len};
-ghost use Rattle.bank.specs.ReadOut.{is_done, want_checks, starting, wanting, accepting, buffer_after};
+ghost use Rattle.bank.specs.ReadOut.{rule_of, is_done, want_checks, starting, wanting, accepting, buffer_after};
 
 use crate::layout::chunk_len;
 use crate::refusal::Refusal;
@@ -57,7 +56,7 @@ impl ReadOut {
 
     // How many bytes it wants next, at most a budget of them where no field is wider.
     pub fn wanting(self, budget: u16) -> Result<Wanted, Refusal>
-        ensures { result ≡ wanting chunk_len self budget }
+        ensures { result ≡ wanting (rule_of self) self budget }
     {
         self.check(budget)?;
         if self.done() {
@@ -69,8 +68,8 @@ impl ReadOut {
 
     // Stores a chunk of the wanted length at the next offset of the buffer, and advances behind it.
     pub fn accepting(self, budget: u16, chunk: &[u8], buffer: &mut [u8]) -> Result<ReadOut, Refusal>
-        ensures answer { result ≡ accepting chunk_len self budget chunk.now buffer.old }
-        ensures stored { buffer.new ≡ buffer_after chunk_len self budget chunk.now buffer.old }
+        ensures answer { result ≡ accepting (rule_of self) self budget chunk.now buffer.old }
+        ensures stored { buffer.new ≡ buffer_after (rule_of self) self budget chunk.now buffer.old }
     {
         self.check(budget)?;
         if buffer.len() < self.length as usize {
