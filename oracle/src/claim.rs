@@ -1,18 +1,19 @@
-//! Holds a program to the claim of 01, "A cut plan, read back": random plans, each at every cut, each with a list of
-//! calls.
+//! Holds a program to the claim of 01, "A cut plan, read back", in either mode: random plans, each at every cut, each
+//! with a list of calls.
 
 mod cases;
 mod conclusions;
 
 use std::io;
 
-use crate::line::Line;
-use crate::program::Program;
+use crate::layout::MODES;
+use crate::program::{failure, request, Program};
 use crate::rng::Rng;
 use cases::{random_plan, Case};
 use conclusions::{failed, ReadBack};
 
-const ROUNDS: usize = 1_000;
+/// In each mode.
+const ROUNDS: usize = 500;
 
 /// How many plans a round has.
 const PLANS: usize = 50;
@@ -25,8 +26,8 @@ pub fn claim(program: &str, seed: u64) -> io::Result<()> {
     let mut rng = Rng::new(seed);
     let mut program = Program::start(program)?;
     let mut counts = Counts::default();
-    for _ in 0..ROUNDS {
-        let mut cases: Vec<_> = (0..PLANS).flat_map(|_| Case::at_every_cut(&random_plan(&mut rng))).collect();
+    for mode in (0..ROUNDS).flat_map(|_| MODES) {
+        let mut cases: Vec<_> = (0..PLANS).flat_map(|_| Case::at_every_cut(&random_plan(&mut rng), mode)).collect();
         ask_each(&mut program, &mut cases, |case, back| {
             case.set_calls(&mut rng, back.bank);
             Ok(())
@@ -39,7 +40,7 @@ pub fn claim(program: &str, seed: u64) -> io::Result<()> {
     program.end()?;
     let Counts { cuts, calls, done } = counts;
     let plans = ROUNDS * PLANS;
-    println!("checked {plans} plans, {cuts} cuts, {calls} calls and {done} read-outs that were done, 0 failures");
+    println!("checked {plans} plans in each mode, {cuts} cuts, {calls} calls and {done} read-outs that were done, 0 failures");
     Ok(())
 }
 
@@ -64,7 +65,7 @@ fn ask_each(
     cases: &mut [Case],
     mut hand_on: impl FnMut(&mut Case, ReadBack) -> Result<(), String>,
 ) -> io::Result<()> {
-    let requests: Vec<_> = cases.iter().map(request_of).collect();
+    let requests: Vec<_> = cases.iter().map(|case| request(READ_BACK, &case.cut_plan())).collect();
     let answers = program.answers(&requests)?;
     for ((case, request), answer) in cases.iter_mut().zip(&requests).zip(&answers) {
         let back = ReadBack::of(case, answer).ok_or("an accepted plan has no such answer".to_owned());
@@ -73,22 +74,10 @@ fn ask_each(
     Ok(())
 }
 
-fn request_of(case: &Case) -> Vec<u8> {
-    let mut line = Line::default();
-    line.put(&READ_BACK);
-    line.put(&case.cut_plan());
-    line.text().to_vec()
-}
-
 fn check(case: &Case, back: &ReadBack) -> Result<(), String> {
     let failed = failed(case, back);
     if failed.is_empty() {
         return Ok(());
     }
     Err(format!("not so: {}", failed.join("; ")))
-}
-
-fn failure(what: &str, request: &[u8], answer: &[u8]) -> io::Error {
-    let [request, answer] = [request, answer].map(String::from_utf8_lossy);
-    io::Error::other(format!("{what}\nrequest {request}\nanswer  {answer}"))
 }

@@ -5,6 +5,7 @@ use dali2rust_domain::dali::banks::luminaire_write::{Bank1Layout, LUMINAIRE_FIEL
 use dali2rust_domain::dali::banks::part251::BANK_LUMINAIRE_INFO;
 
 use crate::function::{Function, Row, Source};
+use crate::layout::{ChunkMode, MODES};
 use crate::line::{Args, Line, Output, Put, Sequence, Take};
 use crate::luminaire_write::{planned_stores, random_wanted, with_bit, Numbers, Wanted};
 use crate::memory_bank_parser::random_bank;
@@ -17,8 +18,9 @@ use crate::rng::Rng;
 pub const FUNCTIONS: &[&dyn Function] =
     &[&Row::new(0x80, "cut_plan::read_back", read_back, cut_cases).random(random_cut)];
 
-/// What is wanted, how many stores are made, the calls behind the cut, and what is lent.
+/// The mode of the read-out, what is wanted, how many stores are made, the calls behind the cut, and what is lent.
 pub struct CutPlan {
+    pub mode: ChunkMode,
     pub wanted: Wanted,
     pub cut: usize,
     pub list: CallList,
@@ -37,7 +39,7 @@ fn read_back(mut plan: CutPlan) -> Answer {
 impl CutPlan {
     /// A store past the bank's end has no effect.
     fn store_and_read(&mut self) -> Result<ReadOut, Refusal> {
-        let start = start(&self.bank)?;
+        let start = start(&self.bank, self.mode)?;
         let layout = Bank1Layout::from_header(&self.bank);
         let stores = planned_stores(&layout, &self.wanted)?;
         for (offset, value) in stores.into_iter().take(self.cut) {
@@ -49,12 +51,13 @@ impl CutPlan {
     }
 }
 
-fn start(bank: &[u8]) -> Result<ReadOut, Refusal> {
-    starting((BANK_LUMINAIRE_INFO, bank.len() as u16))
+fn start(bank: &[u8], mode: ChunkMode) -> Result<ReadOut, Refusal> {
+    starting((BANK_LUMINAIRE_INFO, bank.len() as u16, mode))
 }
 
 impl Put for CutPlan {
     fn put(&self, line: &mut Line) {
+        line.put(&self.mode);
         line.put(&self.wanted);
         line.put(&self.cut);
         line.put(&self.list);
@@ -66,8 +69,8 @@ impl Put for CutPlan {
 
 impl Take for CutPlan {
     fn take(args: &mut Args) -> Option<Self> {
-        let (wanted, cut, list, bank, buffer, answers) = args.take()?;
-        Some(Self { wanted, cut, list, bank, buffer, answers })
+        let (mode, wanted, cut, list, bank, buffer, answers) = args.take()?;
+        Some(Self { mode, wanted, cut, list, bank, buffer, answers })
     }
 }
 
@@ -97,9 +100,10 @@ fn number_and_text() -> Wanted {
 fn whole(rng: &mut Rng, id: u16, length: usize, wanted: Wanted, cut: usize) -> CutPlan {
     let mut bank = random_bank(rng, id, length);
     bank[0] = (length - 1) as u8;
-    let list = start(&bank).map_or(CallList::of(&[]), |start| whole_list(rng, start, 20));
+    let mode = rng.one_of(&MODES);
+    let list = start(&bank, mode).map_or(CallList::of(&[]), |start| whole_list(rng, start, 20));
     let answers = random_answers(rng, &list);
-    CutPlan { wanted, cut, list, bank, buffer: rng.bytes(length + 1), answers }
+    CutPlan { mode, wanted, cut, list, bank, buffer: rng.bytes(length + 1), answers }
 }
 
 /// What the person, the luminaire or the caller can be refused for.
@@ -155,7 +159,8 @@ fn random_cut(source: &mut Source) -> CutPlan {
     let wanted = random_wanted(rng);
     let bank = random_old(rng);
     let length = (bank.len() as u16).min(MAX_LENGTH);
-    let start = ReadOut { bank: BANK_LUMINAIRE_INFO, length, next: 0 };
+    let mode = rng.one_of(&MODES);
+    let start = ReadOut::from_start(BANK_LUMINAIRE_INFO, length, mode);
     let buffer = random_buffer(rng, start);
     let list = random_calls(rng, start, buffer.clone(), most);
     let answers = random_answers(rng, &list);
@@ -164,7 +169,7 @@ fn random_cut(source: &mut Source) -> CutPlan {
         1..=3 => rng.below(90),
         _ => rng.below(20),
     };
-    CutPlan { wanted, cut, list, bank, buffer, answers }
+    CutPlan { mode, wanted, cut, list, bank, buffer, answers }
 }
 
 /// How many bytes of calls to make: a request has 4,000 bytes at most, and has the rest of the plan too.

@@ -1,4 +1,6 @@
-//! The functions of `banks/layout.rs`.
+//! The functions of `banks/layout.rs`, and the modes of a chunk.
+
+mod modes;
 
 use std::collections::BTreeSet;
 
@@ -12,6 +14,9 @@ use dali2rust_domain::dali::banks::layout::{
 use crate::function::{Cases, Function, Row, Source};
 use crate::line::{Line, Put};
 use crate::rng::Rng;
+use modes::CHUNK_LEN_IN;
+
+pub use modes::{chunk_len_in, ChunkMode, MODES};
 
 pub const FUNCTIONS: &[&dyn Function] = &[
     &Row::new(0x10, "bank_last_offset", bank_last_offset, banks),
@@ -36,6 +41,7 @@ pub const FUNCTIONS: &[&dyn Function] = &[
     )
     .domain(every_chunk)
     .random(random_chunk),
+    &CHUNK_LEN_IN,
 ];
 
 /// The constants in the order of `layout.rs`. The maps are compared entry by entry.
@@ -170,10 +176,10 @@ fn every_chunk() -> Cases<ChunkCase> {
 
 fn random_chunk(source: &mut Source) -> ChunkCase {
     let rng = &mut source.rng;
-    (random_bank(rng), small_or_large(rng), small_or_large(rng), small_or_large(rng))
+    (random_bank(rng), near_or_far(rng), near_or_far(rng), near_or_far(rng))
 }
 
-fn small_or_large(rng: &mut Rng) -> u16 {
+fn near_or_far(rng: &mut Rng) -> u16 {
     match rng.below(4) {
         0 => rng.number() as u16,
         1 => u16::MAX - rng.below(8) as u16,

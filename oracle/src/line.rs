@@ -128,7 +128,7 @@ macro_rules! tuples {
     )*};
 }
 
-tuples!((A B)(A B C)(A B C D)(A B C D E F)(A B C D E F G H));
+tuples!((A B)(A B C)(A B C D)(A B C D E)(A B C D E F G)(A B C D E F G H));
 
 impl Put for () {
     fn put(&self, _: &mut Line) {}

@@ -8,6 +8,7 @@ mod compare;
 mod cut_plan;
 mod function;
 mod identity;
+mod lamp_current;
 mod layout;
 mod line;
 mod luminaire_write;
@@ -30,10 +31,11 @@ use block::{add_line, answers, fill_up, has_room, read_block};
 use claim::claim;
 use compare::compare;
 use function::{functions, Scale, Source};
+use lamp_current::lamp_current;
 use round_trip::round_trip;
 
-const USAGE: &str = "usage: oracle compare PROGRAM [SEED] | oracle claim PROGRAM [SEED] | oracle round-trip PROGRAM \
-    | oracle list DIR | oracle answer | oracle stores PROGRAM [SEED] | oracle files DIR";
+const USAGE: &str = "usage: oracle compare PROGRAM [SEED] | oracle claim PROGRAM [SEED] \
+    | oracle lamp-current PROGRAM [SEED] | oracle round-trip PROGRAM | oracle list DIR | oracle answer | oracle stores PROGRAM [SEED] | oracle files DIR";
 
 /// The list is the same every time.
 const LIST_SEED: u64 = 251;
@@ -56,6 +58,8 @@ fn run() -> io::Result<()> {
         ["compare", program, seed] => compare(program, seed.parse().map_err(io::Error::other)?),
         ["claim", program] => claim(program, seed_of_the_clock()),
         ["claim", program, seed] => claim(program, seed.parse().map_err(io::Error::other)?),
+        ["lamp-current", program] => lamp_current(program, seed_of_the_clock()),
+        ["lamp-current", program, seed] => lamp_current(program, seed.parse().map_err(io::Error::other)?),
         ["round-trip", program] => round_trip(program),
         ["list", dir] => list(Path::new(dir)),
         ["answer"] => answer_input(),

@@ -4,6 +4,7 @@ use std::io::{self, BufRead, BufReader, Read, Write};
 use std::process::{Child, ChildStdin, ChildStdout, Command, Stdio};
 
 use crate::block::{add_line, fill_up, has_room, requests, BLOCK_LEN};
+use crate::line::{Line, Put};
 
 pub struct Program {
     child: Child,
@@ -68,6 +69,19 @@ impl Program {
         }
         Ok(())
     }
+}
+
+/// A request of a function.
+pub fn request(number: u8, args: &impl Put) -> Vec<u8> {
+    let mut line = Line::default();
+    line.put(&number);
+    line.put(args);
+    line.text().to_vec()
+}
+
+pub fn failure(what: &str, request: &[u8], answer: &[u8]) -> io::Error {
+    let [request, answer] = [request, answer].map(String::from_utf8_lossy);
+    io::Error::other(format!("{what}\nrequest {request}\nanswer  {answer}"))
 }
 
 /// As many of the requests as a block has room for.

@@ -1,11 +1,12 @@
-//! The read-out. The Rust has none: here is a plain second implementation, on the Rust's `chunk_len`. Lists of calls
-//! are in its folder.
+//! The read-out. The Rust has none: here is a plain second implementation, on the Rust's `chunk_len` and the rule of each
+//! mode over it. Lists of calls are in its folder.
 
 mod calls;
 
-use dali2rust_domain::dali::banks::layout::chunk_len;
+use dali2rust_domain::dali::banks::part251::BANK_LUMINAIRE_INFO;
 
 use crate::function::{Function, Row, Scale, Source};
+use crate::layout::{chunk_len_in, ChunkMode, MODES};
 use crate::line::{Args, Line, Output, Put, Take};
 use crate::luminaire_write::{SHOWS_BACK, TEXT_REFUSAL};
 use crate::refusal::Refusal;
@@ -25,18 +26,28 @@ pub const FUNCTIONS: &[&dyn Function] = &[
     &TEXT_REFUSAL,
 ];
 
-/// Any three numbers, also those that no call hands out.
+/// Any numbers, also those that no call hands out.
 #[derive(Clone, Copy)]
 pub struct ReadOut {
     pub bank: u8,
     pub length: u16,
     pub next: u16,
+    pub mode: ChunkMode,
+}
+
+impl ReadOut {
+    /// Of any length, also one that can't be started.
+    pub fn from_start(bank: u8, length: u16, mode: ChunkMode) -> Self {
+        Self { bank, length, next: 0, mode }
+    }
 }
 
 pub const MAX_LENGTH: u16 = 256;
 
-pub fn starting((bank, length): (u8, u16)) -> Result<ReadOut, Refusal> {
-    sound(ReadOut { bank, length, next: 0 })
+type StartCase = (u8, u16, ChunkMode);
+
+pub fn starting((bank, length, mode): StartCase) -> Result<ReadOut, Refusal> {
+    sound(ReadOut::from_start(bank, length, mode))
 }
 
 fn sound(read_out: ReadOut) -> Result<ReadOut, Refusal> {
@@ -52,14 +63,14 @@ fn done(read_out: ReadOut) -> bool {
 
 /// The length of the chunk wanted, or none when done.
 fn wanting(read_out: ReadOut, budget: u16) -> Result<Option<u16>, Refusal> {
-    let ReadOut { bank, length, next } = sound(read_out)?;
+    let ReadOut { bank, length, next, mode } = sound(read_out)?;
     if budget == 0 {
         return Err(Refusal::BudgetZero);
     }
     if done(read_out) {
         return Ok(None);
     }
-    Ok(Some(chunk_len(bank, next, length - next, budget)))
+    Ok(Some(chunk_len_in(mode, bank, next, length - next, budget)))
 }
 
 /// The read-out advanced past the chunk. When done, an empty chunk advances it by nothing.
@@ -85,42 +96,43 @@ fn accepted((read_out, budget, chunk, mut buffer): AcceptCase) -> (Result<ReadOu
 
 impl Put for ReadOut {
     fn put(&self, line: &mut Line) {
-        line.put(&(self.bank, self.length, self.next));
+        line.put(&(self.bank, self.length, self.next, self.mode));
     }
 }
 
 impl Take for ReadOut {
     fn take(args: &mut Args) -> Option<Self> {
-        let (bank, length, next) = args.take()?;
-        Some(Self { bank, length, next })
+        let (bank, length, next, mode) = args.take()?;
+        Some(Self { bank, length, next, mode })
     }
 }
 
 const BANKS: [u8; 10] = [0, 1, 9, 202, 203, 204, 205, 206, 207, 255];
 
 /// Lengths, and offsets in them, around the edges.
-const TELLING_LENGTHS: [u16; 7] = [0, 1, 16, 255, 256, 257, u16::MAX];
+const TELLING_LENGTHS: [u16; 10] = [0, 1, 16, 0xC0, 0xC1, 0xC2, 255, 256, 257, u16::MAX];
 
-fn banks(scale: Scale) -> Vec<u8> {
-    scale.pick(BANKS.to_vec(), vec![202])
+fn banks_in_modes(scale: Scale) -> Vec<(u8, ChunkMode)> {
+    let every = BANKS.into_iter().flat_map(|bank| MODES.map(|mode| (bank, mode)));
+    scale.pick(every.collect(), vec![(1, ChunkMode::LampCurrent), (202, ChunkMode::Plain)])
 }
 
-fn start_cases(source: &mut Source) -> Vec<(u8, u16)> {
+fn start_cases(source: &mut Source) -> Vec<StartCase> {
     let every: Vec<u16> = (0..=300).chain([u16::MAX]).collect();
     let lengths = source.scale.pick(every, TELLING_LENGTHS.to_vec());
-    let of_bank = |bank| lengths.iter().map(move |length| (bank, *length));
-    banks(source.scale).into_iter().flat_map(of_bank).collect()
+    let of_bank = |(bank, mode)| lengths.iter().map(move |length| (bank, *length, mode));
+    banks_in_modes(source.scale).into_iter().flat_map(of_bank).collect()
 }
 
-fn random_start(source: &mut Source) -> (u8, u16) {
-    (source.rng.number() as u8, random_length(source))
+fn random_start(source: &mut Source) -> StartCase {
+    (source.rng.number() as u8, random_length(source), source.rng.one_of(&MODES))
 }
 
 fn read_outs(source: &mut Source) -> Vec<ReadOut> {
     let mut read_outs = Vec::new();
-    for bank in banks(source.scale) {
+    for (bank, mode) in banks_in_modes(source.scale) {
         for length in TELLING_LENGTHS {
-            read_outs.extend(TELLING_LENGTHS.map(|next| ReadOut { bank, length, next }));
+            read_outs.extend(TELLING_LENGTHS.map(|next| ReadOut { bank, length, next, mode }));
         }
     }
     read_outs
@@ -145,10 +157,15 @@ fn random_read_out(source: &mut Source) -> ReadOut {
         0 => rng.number() as u16,
         1 => length.saturating_add(1),
         2 => length,
-        3..=8 => rng.below(usize::from(length) + 1) as u16,
+        3 => 0xBC + rng.below(8) as u16,
+        4..=8 => rng.below(usize::from(length) + 1) as u16,
         _ => 0,
     };
-    ReadOut { bank: rng.one_of(&BANKS), length, next }
+    let bank = match rng.below(4) {
+        0 => BANK_LUMINAIRE_INFO,
+        _ => rng.one_of(&BANKS),
+    };
+    ReadOut { bank, length, next, mode: rng.one_of(&MODES) }
 }
 
 fn want_cases(source: &mut Source) -> Vec<(ReadOut, u16)> {
@@ -174,7 +191,7 @@ fn random_budget(rng: &mut Rng) -> u16 {
 fn accept_cases(source: &mut Source) -> Vec<AcceptCase> {
     let mut cases = Vec::new();
     for (length, next) in [(16, 5), (16, 16), (16, 17), (257, 5), (0, 0)] {
-        let read_out = ReadOut { bank: 202, length, next };
+        let read_out = ReadOut { next, ..ReadOut::from_start(202, length, ChunkMode::LampCurrent) };
         for (budget, buffer) in [(0, 15), (0, 16), (5, 15), (5, 16)] {
             for chunk in [0, 1, 5, 6] {
                 cases.push((read_out, budget, source.rng.bytes(chunk), source.rng.bytes(buffer)));

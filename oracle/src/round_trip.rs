@@ -6,11 +6,11 @@ use dali2rust_domain::dali::banks::luminaire_write::{FieldKind, LuminaireField, 
 use dali2rust_domain::dali::banks::part251::{LuminaireFormat, CONTENT_FORMAT_ID_OFFSET};
 use dali2rust_domain::registry::LuminaireValue;
 
-use crate::line::{Args, Line, Put, Take};
+use crate::line::{Args, Put, Take};
 use crate::luminaire_write::{index_of, Wanted};
 use crate::memory_bank_parser::Text;
 use crate::part251::FORMATS;
-use crate::program::Program;
+use crate::program::{failure, request, Program};
 
 const V5: LuminaireFormat = LuminaireFormat::V5;
 
@@ -139,17 +139,11 @@ struct Ported {
 
 impl Ported {
     fn ask<R: Take>(&mut self, number: u8, args: impl Put) -> io::Result<R> {
-        let mut line = Line::default();
-        line.put(&number);
-        line.put(&args);
-        let answers = self.program.answers(&[line.text().to_vec()])?;
-        let answer = answers.concat();
+        let request = request(number, &args);
+        let answer = self.program.answers(std::slice::from_ref(&request))?.concat();
         let mut args = Args::new(&answer);
         let taken = args.take().filter(|_| args.is_empty());
-        taken.ok_or_else(|| {
-            let [request, answer] = [line.text(), &answer].map(String::from_utf8_lossy);
-            io::Error::other(format!("request {request} has the answer {answer}"))
-        })
+        taken.ok_or_else(|| failure("no such answer", &request, &answer))
     }
 
     fn in_format(&mut self, field: &LuminaireField, format: LuminaireFormat) -> io::Result<bool> {

@@ -14,6 +14,7 @@ pub(crate) fn answer(number: u8, request: &mut Request, out: &mut Output) {
 
 // Puts the bank, the buffer and the answers as the call left them.
 fn read_back(request: &mut Request, out: &mut Output) {
+    let mode = request.take();
     let numbers = request.take();
     let text_field = request.take();
     let text = request.take();
@@ -26,7 +27,9 @@ fn read_back(request: &mut Request, out: &mut Output) {
     let buffer = request.lend(&mut buffer_space);
     let mut answer_space = [NO_ANSWER; NUMBERS_LEN];
     let answers = request.lend_numbers(&mut answer_space);
-    out.put(cut_plan::read_back(numbers, text_field, text, cut, calls, bank, buffer, answers));
+    out.put(cut_plan::read_back(
+        mode, numbers, text_field, text, cut, calls, bank, buffer, answers,
+    ));
     out.put(&*bank);
     out.put(&*buffer);
     out.put(&*answers);

@@ -1,9 +1,10 @@
-// The functions of layout.rs.
+// The functions of layout.rs, and the modes of a chunk, which the Rust lacks.
 use crate::output::{Output, Put};
 use crate::request::{Request, Take};
+use bank::ChunkMode;
 use bus::BankField;
 
-// By a match, as in main.rt.
+// By a match, as in main.rt; and so is a mode taken, as in request.rt.
 pub(crate) fn answer(number: u8, request: &mut Request, out: &mut Output) {
     match number {
         0x10 => out.put(bus::bank_last_offset(request.take())),
@@ -17,6 +18,12 @@ pub(crate) fn answer(number: u8, request: &mut Request, out: &mut Output) {
         0x14 => out.put(bus::is_field_boundary(request.take(), request.take())),
         0x15 => constants(out),
         0x16 => out.put(bank::chunk_len(
+            request.take(),
+            request.take(),
+            request.take(),
+            request.take(),
+        )),
+        0x17 => out.put(ChunkMode::take(request).chunk_len(
             request.take(),
             request.take(),
             request.take(),
@@ -46,5 +53,20 @@ impl Put for BankField {
     fn put(self, out: &mut Output) {
         out.put(self.offset);
         out.put(self.width);
+    }
+}
+
+impl Take<'_> for ChunkMode {
+    fn take(request: &mut Request) -> Self {
+        match u8::take(request) {
+            0 => ChunkMode::Plain,
+            _ => ChunkMode::LampCurrent,
+        }
+    }
+}
+
+impl Put for ChunkMode {
+    fn put(self, out: &mut Output) {
+        out.put(self as u8);
     }
 }

@@ -8,7 +8,7 @@ use bank::{ReadOut, Wanted, call_list};
 // By a match, as in main.rt.
 pub(crate) fn answer(number: u8, request: &mut Request, out: &mut Output) {
     match number {
-        0x40 => out.put(ReadOut::starting(request.take(), request.take())),
+        0x40 => out.put(ReadOut::starting(request.take(), request.take(), request.take())),
         0x41 => out.put(ReadOut::take(request).done()),
         0x42 => out.put(ReadOut::take(request).wanting(request.take())),
         0x43 => accepting(request, out),
@@ -48,6 +48,7 @@ impl Take<'_> for ReadOut {
             bank: request.take(),
             length: request.take(),
             next: request.take(),
+            mode: request.take(),
         }
     }
 }
@@ -57,6 +58,7 @@ impl Put for ReadOut {
         out.put(self.bank);
         out.put(self.length);
         out.put(self.next);
+        out.put(self.mode);
     }
 }
 

@@ -18,7 +18,7 @@ use Rattle.bus.proofs.Lists.{no_element}
 use Rattle.bus.proofs.Width.{sized}
 use Rattle.bus.proofs.Contiguous.{runs, here, later}
 use Rattle.bus.proofs.Maps.{every_map}
-use Rattle.bank.specs.Chunk.{fields_from, with_further, whole_fields, chunk_len, ChunkLenBounded, SmallerElsewhere, total, Longest, LongestRun}
+use Rattle.bank.specs.Chunk.{ChunkRule, Bounded, fields_from, with_further, whole_fields, chunk_len, ChunkLenBounded, SmallerElsewhere, total, Longest, LongestRun}
 use Rattle.bank.proofs.Chunk.{chunk_end, chunk_smaller, chunk_whole}
 
 -- what is taken never falls, and grows within the limit
@@ -35,10 +35,18 @@ grown limit taken (x ∷ xs) =
     (λ t. rw t (omega (arith, grown limit more xs, leb-true more limit t)))
     (λ f. rw f (omega arith))
 
-record Chunked (remaining budget n : ℕ) : Type 0 where
-  within : n ≤ remaining
-  few : n ≤ max budget 6
-  some_byte : 1 ≤ remaining → 1 ≤ budget → 1 ≤ n
+pub record Chunked (remaining budget n : ℕ) : Type 0 where
+  pub within : n ≤ remaining
+  pub few : n ≤ max budget 6
+  pub some_byte : 1 ≤ remaining → 1 ≤ budget → 1 ≤ n
+
+pub bounded : {chunk : ChunkRule} → ((bank o remaining budget : ℕ) → Chunked remaining budget (chunk bank o remaining budget)) → Bounded chunk
+bounded each =
+    record {
+      within = λ bank o remaining budget. (each bank o remaining budget).within;
+      few = λ bank o remaining budget. (each bank o remaining budget).few;
+      some = λ bank o remaining budget. (each bank o remaining budget).some_byte;
+    }
 
 chunked : (remaining budget : ℕ) (xs : List BankField) → Chunked remaining budget (whole_fields remaining (min budget remaining) xs)
 unfolding whole_fields
@@ -49,14 +57,12 @@ chunked remaining budget (x ∷ xs) =
     (λ t. rw t (omega (arith, grown (min budget remaining) first xs, leb-true first remaining t, sized x.width)))
     (λ f. rw f (omega arith))
 
-pub chunk_len_bounded : ChunkLenBounded
+pub chunk_len_chunked : (bank o remaining budget : ℕ) → Chunked remaining budget (chunk_len bank o remaining budget)
 unfolding chunk_len
-chunk_len_bounded =
-    record {
-      within = λ bank o remaining budget. (chunked remaining budget (fields_from o (map_of bank))).within;
-      few = λ bank o remaining budget. (chunked remaining budget (fields_from o (map_of bank))).few;
-      some = λ bank o remaining budget. (chunked remaining budget (fields_from o (map_of bank))).some_byte;
-    }
+chunk_len_chunked bank o remaining budget = chunked remaining budget (fields_from o (map_of bank))
+
+pub chunk_len_bounded : ChunkLenBounded
+chunk_len_bounded = bounded chunk_len_chunked
 
 -- a field holds its own start
 holds_start : (o : ℕ) (x : BankField) → x.offset ≡ o → holds o x ≡ true

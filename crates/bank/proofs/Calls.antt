@@ -53,11 +53,21 @@ laid_length d at x h = simp (length-append, length-take, length-drop) (omega ari
 
 -- ---- one call
 
+-- a read-out keeps its mode
+pub mode_stays : (chunk : ChunkRule) (s : State) (c : Call) → (step chunk s c).out.mode ≡ s.out.mode
+mode_stays chunk s (want budget) = refl
+mode_stays chunk s (accept budget bytes) = go (first_of (accept_checks chunk s.out budget bytes s.buffer)) refl
+  where
+    go : (o : Option Refusal) → first_of (accept_checks chunk s.out budget bytes s.buffer) ≡ o → (step chunk s (accept budget bytes)).out.mode ≡ s.out.mode
+    go (Some e) f = rw (← (reading.refused chunk s.out budget bytes s.buffer f).0)
+    go None f = rw (← (reading.taken chunk s.out budget bytes s.buffer f).0)
+
 module _ (chunk : ChunkRule) (rule : Bounded chunk) where
   record Stepped (s : State) (c : Call) : Type 0 where
     next_is : (step chunk s c).out.next ≡ s.out.next + sum (map length (taken chunk s c))
     bank_stays : (step chunk s c).out.bank ≡ s.out.bank
     length_stays : (step chunk s c).out.length ≡ s.out.length
+    same_mode : (step chunk s c).out.mode ≡ s.out.mode
     within : (step chunk s c).out.next ≤ s.out.length
     -- what is laid behind it is laid behind its chunk
     laid_on : (y : List ℕ) → laid (step chunk s c).buffer (step chunk s c).out.next y ≡ laid s.buffer s.out.next (joined (taken chunk s c) ++ y)
@@ -67,7 +77,7 @@ module _ (chunk : ChunkRule) (rule : Bounded chunk) where
 
   stepped : (s : State) (c : Call) → s.out.next ≤ s.out.length → Stepped s c
   stepped s (want budget) h =
-      record { next_is = omega arith; bank_stays = refl; length_stays = refl; within = h; laid_on = λ y. refl; room_stays = refl; moved = omega arith }
+      record { next_is = omega arith; bank_stays = refl; length_stays = refl; same_mode = refl; within = h; laid_on = λ y. refl; room_stays = refl; moved = omega arith }
   stepped s (accept budget bytes) h = go (first_of checks) refl
     where
       r : ReadOut
@@ -86,6 +96,7 @@ module _ (chunk : ChunkRule) (rule : Bounded chunk) where
             next_is = rw (← both.0) (omega arith);
             bank_stays = rw (← both.0);
             length_stays = rw (← both.0);
+            same_mode = mode_stays chunk s (accept budget bytes);
             within = rw (← both.0) h;
             laid_on = λ y. rw (← both.0, ← both.1);
             room_stays = rw (← both.1);
@@ -100,6 +111,7 @@ module _ (chunk : ChunkRule) (rule : Bounded chunk) where
             next_is = rw (← both.0) (omega arith);
             bank_stays = rw (← both.0);
             length_stays = rw (← both.0);
+            same_mode = mode_stays chunk s (accept budget bytes);
             within = rw (← both.0) (omega arith);
             laid_on = λ y. rw (← both.0, ← both.1, append-nil) (laid_behind s.buffer r.next bytes y (omega arith));
             room_stays = rw (← both.1) (laid_length s.buffer r.next bytes (omega (arith, ok)));
@@ -112,6 +124,7 @@ module _ (chunk : ChunkRule) (rule : Bounded chunk) where
     next_is : (after chunk s calls).out.next ≡ s.out.next + sum (map length (accepted chunk s calls))
     bank_stays : (after chunk s calls).out.bank ≡ s.out.bank
     length_stays : (after chunk s calls).out.length ≡ s.out.length
+    same_mode : (after chunk s calls).out.mode ≡ s.out.mode
     within : (after chunk s calls).out.next ≤ s.out.length
     buffer_is : (after chunk s calls).buffer ≡ laid s.buffer s.out.next (joined (accepted chunk s calls))
     room_stays : length (after chunk s calls).buffer ≡ length s.buffer
@@ -123,6 +136,7 @@ module _ (chunk : ChunkRule) (rule : Bounded chunk) where
         next_is = omega arith;
         bank_stays = refl;
         length_stays = refl;
+        same_mode = refl;
         within = h;
         buffer_is = sym (reading.nothing_laid s.buffer s.out.next);
         room_stays = refl;
@@ -138,6 +152,7 @@ module _ (chunk : ChunkRule) (rule : Bounded chunk) where
         next_is = omega (arith, one, rest, total);
         bank_stays = rest.bank_stays ∙ one.bank_stays;
         length_stays = rest.length_stays ∙ one.length_stays;
+        same_mode = rest.same_mode ∙ one.same_mode;
         within = omega (arith, one, rest);
         buffer_is = rest.buffer_is ∙ one.laid_on (joined later) ∙ ap (laid s.buffer s.out.next) (sym (joined_append first later));
         room_stays = rest.room_stays ∙ one.room_stays;
@@ -210,6 +225,7 @@ every_list_of_calls chunk rule s h calls =
       next_is = r.next_is;
       bank_stays = r.bank_stays;
       length_stays = r.length_stays;
+      mode_stays = r.same_mode;
       within = r.within;
       buffer_is = r.buffer_is;
       room_stays = r.room_stays;

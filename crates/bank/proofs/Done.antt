@@ -44,7 +44,7 @@ module _ (chunk : ChunkRule) (rule : Bounded chunk) (r : ReadOut) (budget : ℕ)
   stays : (buffer : List ℕ) → Valid r budget → r.next ≡ r.length → r.length ≤ length buffer → accepting chunk r budget [] buffer ≡ Ok r
   stays buffer v h k =
       (every_chunk_taken_exactly chunk r budget [] buffer).accepted (record { valid = v; room = k; exact = omega (arith, wants_none h) })
-      ∙ ap (λ (n : ℕ). Ok (record { bank = r.bank; length = r.length; next = n })) (add-zero r.next)
+      ∙ ap (λ (n : ℕ). Ok (record { bank = r.bank; length = r.length; next = n; mode = r.mode })) (add-zero r.next)
 
   unchanged : (buffer : List ℕ) → buffer_after chunk r budget [] buffer ≡ buffer
   unchanged buffer = go (first_of (accept_checks chunk r budget [] buffer)) refl

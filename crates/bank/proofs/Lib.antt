@@ -8,7 +8,10 @@ pub mod TextChecks
 pub mod Fields
 pub mod Chunk
 pub mod Bounds
+pub mod Modes
 pub mod Reading
 pub mod Done
 pub mod Calls
+pub mod Kept
+pub mod LampCurrent
 pub mod Running

@@ -2,7 +2,9 @@
 -- Assumes nothing.
 use mathlib.Core.Path.{◌≡◌, refl, ap, ◌∙◌}
 use mathlib.Core.List.{List, [], ◌∷◌, map}
-use Prim.Native.Nat.{ℕ}
+use Prim.Native.Nat.{ℕ, ◌+◌}
+use lib.ListN.{set}
+use native.Mathlib.Numerals.{add-one}
 use native.Mathlib.Omega.{arith}
 use lib.Seq.{sets}
 use Rattle.bus.specs.Value.{laid_into}
@@ -10,8 +12,11 @@ use Rattle.bus.proofs.Lists.{sets_laid}
 use Rattle.bank.specs.declared.call_list.Answer.{Answer}
 use Rattle.bank.specs.declared.call_list.Call.{Call as LentCall}
 use Rattle.bank.specs.declared.call_list.Call as lent
+use Rattle.bank.specs.declared.read_out.ReadOut.{ReadOut}
+use Rattle.bank.specs.Chunk.{ChunkRule, chunk_in}
 use Rattle.bank.specs.ReadOut.{rule_of}
-use Rattle.bank.specs.Calls.{Call, want, accept, State, after, answers_of, calls_in, Layable, AllHaveBits, EveryListLaid}
+use Rattle.bank.proofs.Calls.{mode_stays}
+use Rattle.bank.specs.Calls.{Call, want, accept, State, state_of, answer, step, after, answers_of, handed_back, calls_in, Layable, AllHaveBits, EveryListLaid}
 
 -- a call as it is lent
 abbrev lent_call : Call → LentCall
@@ -33,12 +38,34 @@ every_list_laid calls layable = record { lent = map lent_call calls; fits = fitt
 
 -- ---- a run of calls
 
+-- a call hands back the read-out of the next state
+handed_on : (chunk : ChunkRule) (s : State) (c : Call) → handed_back (answer chunk s c) s.out ≡ (step chunk s c).out
+handed_on chunk s (want budget) = refl
+handed_on chunk s (accept budget bytes) = refl
+
 -- with the calls that are left, the run ends as it does with all, and stores the same answers
 pub record Ran (start : State) (all : List Call) (answers₀ : List Answer) (s : State) (answers : List Answer) (count : ℕ) (left : List Call) : Type 0 where
+  pub same : s.out.mode ≡ start.out.mode
   pub ends : after (rule_of start.out) s left ≡ after (rule_of start.out) start all
   pub stores : sets answers count (answers_of (rule_of start.out) s left) ≡ sets answers₀ 0 (answers_of (rule_of start.out) start all)
 
 module _ {start : State} {all : List Call} {answers₀ : List Answer} {s : State} {answers : List Answer} {count : ℕ} {left : List Call} where
+  -- the call that is made next
+  module _ {c : Call} {cs : List Call} {given : Answer} {out : ReadOut} {buffer : List ℕ} {answers' : List Answer} where
+    pub call_made : Ran start all answers₀ s answers count left → left ≡ c ∷ cs → given ≡ answer (rule_of s.out) s c → out ≡ handed_back given s.out
+        → buffer ≡ (step (rule_of s.out) s c).buffer → answers' ≡ set answers count given → Ran start all answers₀ (state_of out buffer) answers' (count + 1) cs
+    call_made r l g o b a =
+        let rule : rule_of s.out ≡ rule_of start.out = ap chunk_in r.same in
+        let handed : out ≡ (step (rule_of s.out) s c).out = o ∙ ap (λ (x : Answer). handed_back x s.out) g ∙ handed_on (rule_of s.out) s c in
+        let next : state_of out buffer ≡ step (rule_of s.out) s c = ap (λ (t : ReadOut). state_of t buffer) handed ∙ ap (state_of (step (rule_of s.out) s c).out) b in
+        let by_rule : state_of out buffer ≡ step (rule_of start.out) s c = next ∙ ap (λ (k : ChunkRule). step k s c) rule in
+        let laid : answers' ≡ set answers count (answer (rule_of start.out) s c) = a ∙ ap (set answers count) (g ∙ ap (λ (k : ChunkRule). answer k s c) rule) in
+        record {
+          same = ap (λ (t : ReadOut). t.mode) handed ∙ mode_stays (rule_of s.out) s c ∙ r.same;
+          ends = ap (λ (t : State). after (rule_of start.out) t cs) by_rule ∙ (rw l at r.ends);
+          stores = ap (λ (t : State). sets answers' (count + 1) (answers_of (rule_of start.out) t cs)) by_rule ∙ (rw (laid, add-one) (rw l at r.stores));
+        }
+
   -- where no call is left, all answers are laid
   pub all_stored : Ran start all answers₀ s answers count left → left ≡ [] → answers ≡ laid_into (answers_of (rule_of start.out) start all) answers₀
   all_stored r l = rw l at r.stores ∙ sets_laid (answers_of (rule_of start.out) start all) answers₀

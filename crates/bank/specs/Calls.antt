@@ -92,10 +92,11 @@ joined (x ∷ xs) = x ++ joined xs
 
 -- What holds behind a list of calls, whatever chunks they bring.
 pub record Behind (chunk : ChunkRule) (s : State) (calls : List Call) : Type 0 where
-  -- "The next offset is the sum of the accepted chunks' lengths"; bank and length stay
+  -- "The next offset is the sum of the accepted chunks' lengths"; bank, length and mode stay
   pub next_is : (after chunk s calls).out.next ≡ s.out.next + sum (map length (accepted chunk s calls))
   pub bank_stays : (after chunk s calls).out.bank ≡ s.out.bank
   pub length_stays : (after chunk s calls).out.length ≡ s.out.length
+  pub mode_stays : (after chunk s calls).out.mode ≡ s.out.mode
   -- the next offset never passes the length
   pub within : (after chunk s calls).out.next ≤ s.out.length
   -- "its bytes stored at that offset in the lent buffer and nothing else there changed": all chunks in one

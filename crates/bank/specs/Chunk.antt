@@ -1,9 +1,11 @@
--- 01, "The read-out": "`chunk_len` (003, DiiA 252 §9.2.2)".
+-- 01, "The read-out": "`chunk_len` (003, DiiA 252 §9.2.2)"; and the modes of 02, F-4.
 -- Assumes nothing.
-use Rattle.std.specs.Prelude.{◌≡◌, cond, List, [], ◌∷◌, ℕ, ◌+◌, ◌≤◌, ◌<◌, min, max, eqb, leb, length, take, drop, None, Some, slice_get}
+use Rattle.std.specs.Prelude.{◌≡◌, cond, ◌&&◌, List, [], ◌∷◌, ℕ, ◌+◌, ◌-◌, ◌≤◌, ◌<◌, min, max, eqb, leb, ltb, length, take, drop, None, Some, slice_get}
 use Rattle.bus.specs.declared.layout.BankField.{BankField}
 use Rattle.bus.specs.Width.{bytes_of}
 use Rattle.bus.specs.Maps.{map_of, field_containing}
+use Rattle.bank.specs.declared.layout.ChunkMode.{ChunkMode}
+use Rattle.bank.specs.declared.layout.ChunkMode.TheVariants.{Plain, LampCurrent}
 
 -- "whole fields from `offset` on": those from the one that starts there; none inside a field, and none past the map
 unfoldable pub fields_from : ℕ → List BankField → List BankField
@@ -69,3 +71,37 @@ abbrev pub LongestRun : Type 0
 LongestRun =
     (bank remaining budget i : ℕ) (x : BankField) → slice_get (map_of bank) i ≡ Some x → bytes_of x.width ≤ remaining →
     Longest (min budget remaining) (drop i (map_of bank)) (chunk_len bank x.offset remaining budget)
+
+-- ---- 02, F-4, "Lamp current in one read"
+
+-- "Where the present answer would end between C0 and C1 hex, it is one byte shorter if it has more than one byte; a single
+-- byte at C0 becomes two if two remain."
+unfoldable pub lamp_whole : ℕ → ℕ → ℕ → ℕ
+lamp_whole o remaining len =
+    cond (eqb (o + len) 0xC1)
+    (cond (ltb 1 len) (len - 1) (cond (eqb o 0xC0 && leb 2 remaining) 2 len))
+    len
+
+-- "a chunk mode for bank 1", where "the present answer" is `chunk_len`; it "looks only at the bank number"
+unfoldable pub lamp_len : ChunkRule
+lamp_len bank o remaining budget =
+    cond (eqb bank 1) (lamp_whole o remaining (chunk_len bank o remaining budget)) (chunk_len bank o remaining budget)
+
+-- the rule of each mode
+abbrev pub chunk_in : ChunkMode → ChunkRule
+chunk_in Plain = chunk_len
+chunk_in LampCurrent = lamp_len
+
+abbrev pub EveryModeBounded : Type 0
+EveryModeBounded = (mode : ChunkMode) → Bounded (chunk_in mode)
+
+-- "All else equals `chunk_len`", "for other banks it equals `chunk_len`", and so does the plain mode
+pub record Same (bank o remaining budget : ℕ) : Type 0 where
+  pub plain : chunk_in Plain bank o remaining budget ≡ chunk_len bank o remaining budget
+  pub other_bank : (mode : ChunkMode) → (bank ≡ 1 → ⊥) → chunk_in mode bank o remaining budget ≡ chunk_len bank o remaining budget
+  pub other_end :
+      (mode : ChunkMode) → (o + chunk_len bank o remaining budget ≡ 0xC1 → ⊥) →
+      chunk_in mode bank o remaining budget ≡ chunk_len bank o remaining budget
+
+abbrev pub SameElsewhere : Type 0
+SameElsewhere = (bank o remaining budget : ℕ) → Same bank o remaining budget

@@ -7,3 +7,5 @@ pub mod Writable
 pub mod Chunk
 pub mod ReadOut
 pub mod Calls
+pub mod Kept
+pub mod LampCurrent

@@ -2,24 +2,25 @@
 -- chunk rule is a parameter; the calls use that of the read-out.
 -- Assumes nothing.
 use Rattle.std.specs.Prelude.{◌≡◌, Bool, not, cond, ◌||◌, List, [], ◌∷◌, ◌++◌, ℕ, ◌+◌, ◌-◌, ◌≤◌, eqb, ltb, length, take, drop, Err, Ok, Result}
+use Rattle.bank.specs.declared.layout.ChunkMode.{ChunkMode}
 use Rattle.bank.specs.declared.refusal.Refusal.{Refusal}
 use Rattle.bank.specs.declared.refusal.Refusal.TheVariants.{BudgetZero, ReadOutInvalid, SliceTooShort, WrongChunkLength}
 use Rattle.bank.specs.declared.read_out.ReadOut.{ReadOut}
 use Rattle.bank.specs.declared.read_out.Wanted.{Wanted}
 use Rattle.bank.specs.Refusal.{Check, ◌when◌, checked}
-use Rattle.bank.specs.Chunk.{ChunkRule, chunk_len, Bounded}
+use Rattle.bank.specs.Chunk.{ChunkRule, chunk_in, Bounded}
 
 -- "A read-out is a bank number, a length 0 to 256 and a next offset from 0."
-abbrev pub fresh : ℕ → ℕ → ReadOut
-fresh bank len = record { bank = bank; length = len; next = 0 }
+abbrev pub fresh : ℕ → ℕ → ChunkMode → ReadOut
+fresh bank len mode = record { bank = bank; length = len; next = 0; mode = mode }
 
 -- "a new read-out with its next offset advanced"
 abbrev pub advanced : ReadOut → ℕ → ReadOut
-advanced r n = record { bank = r.bank; length = r.length; next = r.next + n }
+advanced r n = record { bank = r.bank; length = r.length; next = r.next + n; mode = r.mode }
 
--- "The chunk it wants is `chunk_len(bank, next, length − next, budget)`.": the rule of its chunks
+-- 02, F-4: "The caller chooses the mode at the read-out's start": the rule of its chunks
 abbrev pub rule_of : ReadOut → ChunkRule
-rule_of r = chunk_len
+rule_of r = chunk_in r.mode
 
 -- "It says done exactly when next equals length."
 abbrev pub is_done : ReadOut → Bool
@@ -38,8 +39,8 @@ abbrev pub short_buffer : ReadOut → List ℕ → Check
 short_buffer r buffer = SliceTooShort when ltb (length buffer) r.length
 
 -- "Starting: 12."
-abbrev pub starting : ℕ → ℕ → Result ReadOut Refusal
-starting bank len = checked (invalid (fresh bank len) ∷ []) Err (Ok (fresh bank len))
+abbrev pub starting : ℕ → ℕ → ChunkMode → Result ReadOut Refusal
+starting bank len mode = checked (invalid (fresh bank len mode) ∷ []) Err (Ok (fresh bank len mode))
 
 -- "Wanting: 12, 11"
 abbrev pub want_checks : ReadOut → ℕ → List Check
@@ -50,7 +51,7 @@ unfoldable pub laid : List ℕ → ℕ → List ℕ → List ℕ
 laid buffer at bytes = take at buffer ++ bytes ++ drop (at + length bytes) buffer
 
 module _ (chunk : ChunkRule) where
-  -- the chunk it wants by a rule
+  -- "The chunk it wants is `chunk_len(bank, next, length − next, budget)`", "the chosen mode's chunk standing for `chunk_len`"
   abbrev pub wanted_len : ReadOut → ℕ → ℕ
   wanted_len r budget = chunk r.bank r.next (r.length - r.next) budget
 

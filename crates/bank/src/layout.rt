@@ -1,8 +1,14 @@
 // How many bytes of a bank to read at once (layout.rs).
 ghost use Rattle.std.specs.Prelude.{◌≡◌, ◌+◌, ◌≤◌};
-ghost use Rattle.bank.specs.Chunk.{fields_from, with_further, whole_fields, chunk_len};
+ghost use Rattle.bank.specs.Chunk.{fields_from, with_further, whole_fields, chunk_len, lamp_whole, lamp_len, chunk_in};
 
-use bus::{BankField, bank_field_map};
+use bus::part251::LAMP_CURRENT_OFFSET;
+use bus::{BANK_LUMINAIRE_INFO, BankField, bank_field_map};
+
+// The first byte of the lamp current, and the second.
+const LAMP_CURRENT: u16 = LAMP_CURRENT_OFFSET as u16;
+
+const LAMP_CURRENT_LOW: u16 = LAMP_CURRENT + 1;
 
 // The fields from the one that starts at the offset on; none where none does.
 fn fields_from(fields: &[BankField], offset: u16) -> &[BankField]
@@ -52,4 +58,51 @@ pub fn chunk_len(bank: u8, offset: u16, remaining: u16, budget: u16) -> u16
 {
     let fields = fields_from(bank_field_map(bank), offset);
     whole_fields(fields, remaining, u16::min(budget, remaining))
+}
+
+// Which rule a read-out's chunks follow.
+#[derive(Clone, Copy)]
+pub enum ChunkMode {
+    // `chunk_len`.
+    Plain,
+    // The same, but the lamp current of bank 1 comes whole, which a driver may change between two reads.
+    LampCurrent,
+}
+
+// The chunk in the place of one that parts the lamp current. One that can't take the second byte stays as it is.
+fn lamp_whole(offset: u16, remaining: u16, len: u16) -> u16
+    ensures { result ≡ lamp_whole offset remaining len }
+{
+    if offset as u32 + len as u32 != LAMP_CURRENT_LOW as u32 {
+        return len;
+    }
+    if 1 < len {
+        len - 1
+    } else if offset == LAMP_CURRENT && 2 <= remaining {
+        2
+    } else {
+        len
+    }
+}
+
+// Of the bank it looks at the number alone: the caller knows the format.
+fn lamp_len(bank: u8, offset: u16, remaining: u16, budget: u16) -> u16
+    ensures { result ≡ lamp_len bank offset remaining budget }
+{
+    let len = chunk_len(bank, offset, remaining, budget);
+    if bank != BANK_LUMINAIRE_INFO {
+        return len;
+    }
+    lamp_whole(offset, remaining, len)
+}
+
+impl ChunkMode {
+    pub fn chunk_len(self, bank: u8, offset: u16, remaining: u16, budget: u16) -> u16
+        ensures { result ≡ chunk_in self bank offset remaining budget }
+    {
+        match self {
+            ChunkMode::Plain => chunk_len(bank, offset, remaining, budget),
+            ChunkMode::LampCurrent => lamp_len(bank, offset, remaining, budget),
+        }
+    }
 }

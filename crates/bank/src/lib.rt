@@ -9,7 +9,7 @@ pub mod part251;
 pub mod read_out;
 pub mod refusal;
 
-pub use layout::chunk_len;
+pub use layout::{ChunkMode, chunk_len};
 pub use luminaire_write::{
     Bank1Layout, FieldKind, LuminaireField, LuminaireTextField, NumberRule, check_writable,
     luminaire_fields,

@@ -3,12 +3,14 @@ ghost use Rattle.std.specs.Prelude.{◌≡◌};
 ghost use Rattle.bank.specs.Refusal.{tested};
 ghost use Rattle.bank.specs.ReadOut.{rule_of, is_done, want_checks, starting, wanting, accepting, buffer_after};
 
-use crate::layout::chunk_len;
+use crate::layout::ChunkMode;
 use crate::refusal::Refusal;
 
 #[derive(Clone, Copy)]
 pub struct ReadOut {
     pub bank: u8,
+    // Beside the bank, so that no room is lost between the members: copies of eight bytes make a read-out slower.
+    pub mode: ChunkMode,
     pub length: u16,
     pub next: u16,
 }
@@ -22,8 +24,8 @@ pub enum Wanted {
 
 impl ReadOut {
     // From the first byte on.
-    pub fn starting(bank: u8, length: u16) -> Result<ReadOut, Refusal>
-        ensures { result ≡ starting bank length }
+    pub fn starting(bank: u8, length: u16, mode: ChunkMode) -> Result<ReadOut, Refusal>
+        ensures { result ≡ starting bank length mode }
     {
         if 256 < length {
             return Err(Refusal::ReadOutInvalid);
@@ -32,6 +34,7 @@ impl ReadOut {
             bank,
             length,
             next: 0,
+            mode,
         })
     }
 
@@ -63,7 +66,8 @@ impl ReadOut {
             return Ok(Wanted::Done);
         }
         let left = self.length - self.next;
-        Ok(Wanted::Chunk(chunk_len(self.bank, self.next, left, budget)))
+        let len = self.mode.chunk_len(self.bank, self.next, left, budget);
+        Ok(Wanted::Chunk(len))
     }
 
     // Stores a chunk of the wanted length at the next offset of the buffer, and advances behind it.
@@ -75,7 +79,8 @@ impl ReadOut {
         if buffer.len() < self.length as usize {
             return Err(Refusal::SliceTooShort);
         }
-        let wanted = chunk_len(self.bank, self.next, self.length - self.next, budget);
+        let left = self.length - self.next;
+        let wanted = self.mode.chunk_len(self.bank, self.next, left, budget);
         if chunk.len() != wanted as usize {
             return Err(Refusal::WrongChunkLength);
         }

@@ -15,6 +15,7 @@ use Rattle.bank.specs.Readings.{cct_of, type_of}
 use Rattle.bank.specs.Fields.{luminaire_fields, from_header}
 use Rattle.bank.specs.Writable.{check_writable}
 use Rattle.bank.specs.Chunk.{chunk_len}
+use Rattle.bank.specs.declared.layout.ChunkMode.TheVariants.{Plain}
 use Rattle.bank.specs.ReadOut.{fresh, advanced, is_done, wanted_len}
 use Rattle.records.specs.declared.attributes.BankReading.{BankReading}
 use Rattle.records.specs.Places.{reading_at, scale_at}
@@ -55,7 +56,7 @@ chunks (suc n) r budget =
     cond (is_done r) [] (wanted ∷ chunks n (advanced r wanted) budget)
 
 abbrev read_out_of : ℕ → ℕ → ℕ → Answer
-read_out_of bank len budget = lengths (chunks len (fresh bank len) budget)
+read_out_of bank len budget = lengths (chunks len (fresh bank len Plain) budget)
 
 abbrev signed_byte : ℕ → Answer
 signed_byte b = reading (reading_at 0 (b ∷ []) 0 I8)

@@ -1,4 +1,5 @@
--- 01, "A cut plan, read back": the claim, in 01's order. `proofs/Claim.antt` proves it.
+-- 01, "A cut plan, read back": the claim, in 01's order, and 02, F-4: "A cut plan reads back as promised in either mode, the
+-- chosen mode's chunk standing for `chunk_len`." `proofs/Claim.antt` proves it.
 -- Assumes nothing.
 use Rattle.std.specs.Prelude.{◌≡◌, true, false, cond, ℕ, ◌+◌, ◌≤◌, ◌<◌, length, take, drop, None, Ok, Option, Some, option_and_then, option_map, slice_get}
 use mathlib.Core.List.{List, [], ◌∷◌, ◌++◌, map}
@@ -10,7 +11,9 @@ use Rattle.bank.specs.declared.luminaire_write.FieldKind.TheVariants.{LayoutId, 
 use Rattle.bank.specs.declared.luminaire_write.LuminaireField.{LuminaireField}
 use Rattle.bank.specs.Fields.{luminaire_fields, field_end, from_header}
 use Rattle.bank.specs.Writable.{format_in}
-use Rattle.bank.specs.Chunk.{ChunkRule, Bounded, chunk_len}
+use Rattle.bank.specs.declared.layout.ChunkMode.{ChunkMode}
+use Rattle.bank.specs.declared.layout.ChunkMode.TheVariants.{Plain}
+use Rattle.bank.specs.Chunk.{chunk_in}
 use Rattle.bank.specs.ReadOut.{fresh, advanced, is_done, starting}
 use Rattle.bank.specs.Calls.{Call, State, state_of, answer, answers_of, after, accepted, sum, HoldsChunks}
 use Rattle.records.specs.declared.luminaire_write.Plan.{Plan}
@@ -76,87 +79,94 @@ pub record Begun (p : Plan) (text : List ℕ) (k i : ℕ) : Type 0 where
 
 -- ---- the calls
 
--- "The list starts from a read-out of bank 1 newly started with the cut bank's length"; "one buffer, of any length and content"
-abbrev pub begin : List ℕ → List ℕ → State
-begin bank buffer = state_of (fresh 1 (length bank)) buffer
+module _ (mode : ChunkMode) (bank buffer : List ℕ) where
+  -- "The list starts from a read-out of bank 1 newly started with the cut bank's length"; "one buffer, of any length and content"
+  abbrev pub begin : State
+  begin = state_of (fresh 1 (length bank) mode) buffer
 
-module _ (chunk : ChunkRule) (bank buffer : List ℕ) where
+  -- what the calls leave
+  abbrev pub state_after : List Call → State
+  state_after calls = after (chunk_in mode) begin calls
+
+  abbrev pub chunks_of : List Call → List (List ℕ)
+  chunks_of calls = accepted (chunk_in mode) begin calls
+
   -- "the sum of the accepted chunks' lengths"
   abbrev pub fetched : List Call → ℕ
-  fetched calls = sum (map length (accepted chunk (begin bank buffer) calls))
+  fetched calls = sum (map length (chunks_of calls))
 
   -- the read-out at that offset
   abbrev pub standing : List Call → ReadOut
-  standing calls = advanced (fresh 1 (length bank)) (fetched calls)
+  standing calls = advanced (fresh 1 (length bank) mode) (fetched calls)
 
   -- "once the read-out is done"
   abbrev pub Done : List Call → Type 0
-  Done calls = is_done (after chunk (begin bank buffer) calls).out ≡ true
+  Done calls = is_done (state_after calls).out ≡ true
 
   -- "now from the buffer's first bytes, as many as the bank has"
   abbrev pub now_of : List Call → List ℕ
-  now_of calls = take (length bank) (after chunk (begin bank buffer) calls).buffer
+  now_of calls = take (length bank) (state_after calls).buffer
 
 -- a call, behind those before it in the list
-pub record Answered (chunk : ChunkRule) (bank buffer : List ℕ) (calls before : List Call) (c : Call) : Type 0 where
+pub record Answered (mode : ChunkMode) (bank buffer : List ℕ) (calls before : List Call) (c : Call) : Type 0 where
   -- "The next offset is the sum of the accepted chunks' lengths"
-  pub next_is : (after chunk (begin bank buffer) before).out ≡ standing chunk bank buffer before
+  pub next_is : (state_after mode bank buffer before).out ≡ standing mode bank buffer before
   -- "each call answers what "The read-out" above gives at that offset"
   pub answers_so :
-      slice_get (answers_of chunk (begin bank buffer) calls) (length before)
-      ≡ Some (answer chunk (state_of (standing chunk bank buffer before) buffer) c)
+      slice_get (answers_of (chunk_in mode) (begin mode bank buffer) calls) (length before)
+      ≡ Some (answer (chunk_in mode) (state_of (standing mode bank buffer before) buffer) c)
 
 -- ---- what is concluded
 
 -- of an old bank, a plan, a cut of it, the bank that the cut leaves, a buffer and a list of calls
-pub record CutReadsBack (chunk : ChunkRule) (old : List ℕ) (p : Plan) (text : List ℕ) (k : ℕ) (bank buffer : List ℕ) (calls : List Call) : Type 0 where
+pub record CutReadsBack (mode : ChunkMode) (old : List ℕ) (p : Plan) (text : List ℕ) (k : ℕ) (bank buffer : List ℕ) (calls : List Call) : Type 0 where
   -- 0. the read-out is started: "newly started with the cut bank's length"
-  pub starts : starting 1 (length bank) ≡ Ok (fresh 1 (length bank))
+  pub starts : starting 1 (length bank) mode ≡ Ok (fresh 1 (length bank) mode)
   -- 1. "The next offset is the sum of the accepted chunks' lengths, each call answers what "The read-out" above gives at that
   -- offset": before each call, and refused calls too
-  pub each_call : (before : List Call) (c : Call) (behind : List Call) → calls ≡ before ++ c ∷ behind → Answered chunk bank buffer calls before c
+  pub each_call : (before : List Call) (c : Call) (behind : List Call) → calls ≡ before ++ c ∷ behind → Answered mode bank buffer calls before c
   -- 2. "its bytes stored at that offset in the lent buffer and nothing else there changed": after the list the buffer is the
   -- cut bank's bytes up to the next offset, and its own old bytes elsewhere
   pub buffer_is :
-      (after chunk (begin bank buffer) calls).buffer
-      ≡ take (after chunk (begin bank buffer) calls).out.next bank ++ drop (after chunk (begin bank buffer) calls).out.next buffer
+      (state_after mode bank buffer calls).buffer
+      ≡ take (state_after mode bank buffer calls).out.next bank ++ drop (state_after mode bank buffer calls).out.next buffer
   -- 3. "after as many accepted chunks as the bank has bytes the read-out is done at the latest"
-  pub ends : length bank ≤ length (accepted chunk (begin bank buffer) calls) → Done chunk bank buffer calls
+  pub ends : length bank ≤ length (chunks_of mode bank buffer calls) → Done mode bank buffer calls
   -- 4. "The fields are the 18 of `LUMINAIRE_FIELDS`; once the read-out is done, the buffer holds every bank byte outside them as
   -- in the old bank."
   pub outside :
-      Done chunk bank buffer calls → (j : ℕ) →
+      Done mode bank buffer calls → (j : ℕ) →
       ((i : ℕ) (f : LuminaireField) → slice_get luminaire_fields i ≡ Some f → f.offset ≤ j → j < field_end f → ⊥) →
-      slice_get (now_of chunk bank buffer calls) j ≡ slice_get old j
+      slice_get (now_of mode bank buffer calls) j ≡ slice_get old j
   -- 5. "A field reads as the luminaire record gives it at start offset 0, absent included: now from the buffer's first bytes":
   -- once done, every planned field whose stores were all made reads as wanted
-  pub whole : Done chunk bank buffer calls → (i : ℕ) → AllMade p text k i → reads 0 (now_of chunk bank buffer calls) i ≡ wanted p text i
+  pub whole : Done mode bank buffer calls → (i : ℕ) → AllMade p text k i → reads 0 (now_of mode bank buffer calls) i ≡ wanted p text i
   -- 6. "They are begun when the cut takes in one of them; new leading bytes are those it takes in": once done, at most one field
   -- has stores begun and not all made; there a text reads empty, and a number of several bytes as the record reads its new
   -- leading bytes followed by its old trailing ones
-  pub only_one : Done chunk bank buffer calls → (i j : ℕ) → Begun p text k i → Begun p text k j → i ≡ j
+  pub only_one : Done mode bank buffer calls → (i j : ℕ) → Begun p text k i → Begun p text k j → i ≡ j
   pub in_between :
-      Done chunk bank buffer calls → (i : ℕ) → Begun p text k i →
-      reads 0 (now_of chunk bank buffer calls) i ≡ begun p text old (length (taken_in p text k i)) i
+      Done mode bank buffer calls → (i : ℕ) → Begun p text k i →
+      reads 0 (now_of mode bank buffer calls) i ≡ begun p text old (length (taken_in p text k i)) i
   -- 7. "old, or before, from the old bank": once done, every other field reads exactly as before, absent included
   pub others :
-      Done chunk bank buffer calls → (i : ℕ) → (AllMade p text k i → ⊥) → (Begun p text k i → ⊥) →
-      reads 0 (now_of chunk bank buffer calls) i ≡ reads 0 old i
+      Done mode bank buffer calls → (i : ℕ) → (AllMade p text k i → ⊥) → (Begun p text k i → ⊥) →
+      reads 0 (now_of mode bank buffer calls) i ≡ reads 0 old i
 
--- The claim, for a chunk rule. A cut is any number: one over the count of stores makes them all.
-abbrev pub CutPlanReadsBackBy : ChunkRule → Type 0
-CutPlanReadsBackBy chunk =
+-- The claim, for a mode. A cut is any number: one over the count of stores makes them all.
+abbrev pub CutPlanReadsBackIn : ChunkMode → Type 0
+CutPlanReadsBackIn mode =
     (old : List ℕ) (p : Plan) (text : List ℕ) (k : ℕ) (bank buffer : List ℕ) (calls : List Call) →
-    OldBank old → Accepted old p text → bank ≡ cut_bank (stores_of p text) k old → HoldsChunks chunk bank (begin bank buffer) calls →
-    CutReadsBack chunk old p text k bank buffer calls
+    OldBank old → Accepted old p text → bank ≡ cut_bank (stores_of p text) k old → HoldsChunks (chunk_in mode) bank (begin mode bank buffer) calls →
+    CutReadsBack mode old p text k bank buffer calls
 
 -- "Demand 3 is a single claim about plan, cut and the whole list of calls": the claim.
 abbrev pub CutPlanReadsBack : Type 0
-CutPlanReadsBack = CutPlanReadsBackBy chunk_len
+CutPlanReadsBack = CutPlanReadsBackIn Plain
 
--- It holds for every rule that has the bounds of `chunk_len`.
-abbrev pub EveryRuleReadsBack : Type 0
-EveryRuleReadsBack = (chunk : ChunkRule) → Bounded chunk → CutPlanReadsBackBy chunk
+-- "in either mode"
+abbrev pub EveryModeReadsBack : Type 0
+EveryModeReadsBack = (mode : ChunkMode) → CutPlanReadsBackIn mode
 
 -- What is wanted of a number, in a plan that is accepted, is the number itself, shown as it is.
 abbrev pub EveryWantedNumberShown : Type 0

@@ -10,15 +10,16 @@ ghost use Rattle.records.specs.CutRun.{bank_behind, read_back, buffer_behind, an
 use crate::luminaire_write::{LuminaireNumbers, Plan};
 use crate::output::put;
 use bank::call_list::{Answer, Call, run};
-use bank::{Bank1Layout, ReadOut, Refusal};
+use bank::{Bank1Layout, ChunkMode, ReadOut, Refusal};
 use bus::BANK_LUMINAIRE_INFO;
 
-// Starts a read-out of bank 1 with a length. One that is no 16-bit number is refused like any other over 256.
-fn start(len: usize) -> Result<ReadOut, Refusal>
-    ensures { result ≡ starting 1 len }
+// Starts a read-out of bank 1 with a length and a mode. A length that is no 16-bit number is refused like any other over
+// 256.
+fn start(len: usize, mode: ChunkMode) -> Result<ReadOut, Refusal>
+    ensures { result ≡ starting 1 len mode }
 {
     let len = u16::try_from(len).or(Err(Refusal::ReadOutInvalid))?;
-    ReadOut::starting(BANK_LUMINAIRE_INFO, len)
+    ReadOut::starting(BANK_LUMINAIRE_INFO, len, mode)
 }
 
 // Makes the stores of a plan in a bank, up to a cut.
@@ -36,6 +37,7 @@ fn store(plan: Plan, text: &[u8], cut: usize, bank: &mut [u8]) -> Result<(), Ref
 // Plans a write to the bank that is lent, makes its stores up to the cut, and reads the bank out by the calls. What is
 // wanted comes as in the claim, which names numbers, field and text.
 pub fn read_back(
+    mode: ChunkMode,
     numbers: LuminaireNumbers,
     text_field: Option<usize>,
     text: &[u8],
@@ -45,12 +47,12 @@ pub fn read_back(
     buffer: &mut [u8],
     answers: &mut [Answer],
 ) -> Result<ReadOut, Refusal>
-    ensures last { result ≡ read_back numbers text_field text.now bank.old cut buffer.old (calls_in calls.now) }
-    ensures cut { bank.new ≡ bank_behind numbers text_field text.now bank.old cut }
-    ensures stored { buffer.new ≡ buffer_behind numbers text_field text.now bank.old cut buffer.old (calls_in calls.now) }
-    ensures answered { answers.new ≡ answers_behind numbers text_field text.now bank.old cut buffer.old (calls_in calls.now) answers.old }
+    ensures last { result ≡ read_back mode numbers text_field text.now bank.old cut buffer.old (calls_in calls.now) }
+    ensures cut { bank.new ≡ bank_behind mode numbers text_field text.now bank.old cut }
+    ensures stored { buffer.new ≡ buffer_behind mode numbers text_field text.now bank.old cut buffer.old (calls_in calls.now) }
+    ensures answered { answers.new ≡ answers_behind mode numbers text_field text.now bank.old cut buffer.old (calls_in calls.now) answers.old }
 {
-    let out = start(bank.len())?;
+    let out = start(bank.len(), mode)?;
     let plan = Plan {
         layout: Bank1Layout::from_header(bank),
         numbers,

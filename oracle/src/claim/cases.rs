@@ -2,13 +2,13 @@
 
 use std::rc::Rc;
 
-use dali2rust_domain::dali::banks::layout::chunk_len;
 use dali2rust_domain::dali::banks::luminaire_write::{
     check_writable, Bank1Layout, FieldWrite, LuminaireField, NumberRule, LUMINAIRE_FIELDS,
 };
 use dali2rust_domain::dali::banks::part251::{LuminaireFormat, BANK_LUMINAIRE_INFO};
 
 use crate::cut_plan::CutPlan;
+use crate::layout::{chunk_len_in, ChunkMode};
 use crate::luminaire_write::{
     accepted_number, index_of, number_fields, planned_stores, printable, telling_u32s, text_fields, Numbers, Wanted,
 };
@@ -108,9 +108,10 @@ fn random_text(rng: &mut Rng, len: usize) -> Vec<u8> {
     printable(rng, length)
 }
 
-/// A cut of a plan, the bank that the program's stores leave there, the calls that read it, and the buffer that they
-/// are lent.
+/// A cut of a plan, the mode of the read-out behind it, the bank that the program's stores leave there, the calls that
+/// read it, and the buffer that they are lent.
 pub struct Case {
+    pub mode: ChunkMode,
     pub plan: Rc<Plan>,
     pub cut: usize,
     pub bank: Vec<u8>,
@@ -120,21 +121,22 @@ pub struct Case {
 
 impl Case {
     /// The plan at each cut, before the bank is known.
-    pub fn at_every_cut(plan: &Rc<Plan>) -> Vec<Self> {
-        let case = |cut| Self { plan: plan.clone(), cut, bank: vec![], calls: vec![], buffer: vec![] };
+    pub fn at_every_cut(plan: &Rc<Plan>, mode: ChunkMode) -> Vec<Self> {
+        let case = |cut| Self { mode, plan: plan.clone(), cut, bank: vec![], calls: vec![], buffer: vec![] };
         (0..=plan.stores().len()).map(case).collect()
     }
 
     /// Makes calls that read this bank.
     pub fn set_calls(&mut self, rng: &mut Rng, bank: Vec<u8>) {
         self.buffer = random_buffer(rng, bank.len());
-        self.calls = random_calls(rng, &bank, self.buffer.len());
+        self.calls = random_calls(rng, self.mode, &bank, self.buffer.len());
         self.bank = bank;
     }
 
     /// What the program is asked. No call has the answer that it is lent.
     pub fn cut_plan(&self) -> CutPlan {
         CutPlan {
+            mode: self.mode,
             wanted: self.plan.wanted.clone(),
             cut: self.cut,
             list: CallList::of(&self.calls),
@@ -159,7 +161,7 @@ fn random_buffer(rng: &mut Rng, needed: usize) -> Vec<u8> {
 const CALLS_LEN: usize = 2_800;
 
 /// Calls on a read-out of this bank. Most lists read it to the end, and some calls come behind that.
-fn random_calls(rng: &mut Rng, bank: &[u8], buffer: usize) -> Vec<Call> {
+fn random_calls(rng: &mut Rng, mode: ChunkMode, bank: &[u8], buffer: usize) -> Vec<Call> {
     let most = rng.one_of(&[1, 4, 12, 60, 60, 300, 300, 300]);
     let takes = buffer >= bank.len();
     let to_the_end = takes && rng.below(8) > 0;
@@ -174,7 +176,7 @@ fn random_calls(rng: &mut Rng, bank: &[u8], buffer: usize) -> Vec<Call> {
             }
             more -= 1;
         }
-        let (call, read) = random_call(rng, bank, next, most);
+        let (call, read) = random_call(rng, mode, bank, next, most);
         next += if takes { read } else { 0 };
         room = room.saturating_sub(call.len());
         calls.push(call);
@@ -184,13 +186,13 @@ fn random_calls(rng: &mut Rng, bank: &[u8], buffer: usize) -> Vec<Call> {
 
 /// A call at this offset, and how many bytes it reads if the buffer is long enough. A chunk of the length wanted holds
 /// the bank's bytes, and any other holds anything.
-fn random_call(rng: &mut Rng, bank: &[u8], next: usize, most: usize) -> (Call, usize) {
+fn random_call(rng: &mut Rng, mode: ChunkMode, bank: &[u8], next: usize, most: usize) -> (Call, usize) {
     let budget = random_budget(rng, most);
     if rng.below(8) == 0 {
         return (Call::Wanting(budget), 0);
     }
     let remaining = bank.len() - next;
-    let wanted = usize::from(chunk_len(BANK_LUMINAIRE_INFO, next as u16, remaining as u16, budget));
+    let wanted = usize::from(chunk_len_in(mode, BANK_LUMINAIRE_INFO, next as u16, remaining as u16, budget));
     let length = random_length(rng, wanted, remaining);
     if budget == 0 || length != wanted {
         return (Call::Accepting(budget, rng.bytes(length)), 0);

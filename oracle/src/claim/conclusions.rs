@@ -1,13 +1,13 @@
 //! What the claim concludes, each part computed on its own from the Rust's functions. Quoted sentences are 01's.
 
 use dali2rust_contracts::msg::FixedText;
-use dali2rust_domain::dali::banks::layout::chunk_len;
 use dali2rust_domain::dali::banks::luminaire_write::{FieldKind, FieldWrite, LuminaireField, LUMINAIRE_FIELDS};
 use dali2rust_domain::dali::banks::part251::BANK_LUMINAIRE_INFO;
 use dali2rust_domain::registry::LuminaireValue;
 use dali2rust_registry_runtime::memory_bank_parser::asked::{parse_bank1_luminaire, Member};
 
 use super::cases::{Case, Store};
+use crate::layout::chunk_len_in;
 use crate::line::Args;
 use crate::luminaire_write::index_of;
 use crate::read_out::{refused, Call, ReadOut, REFUSED};
@@ -83,6 +83,7 @@ fn calls_answer(case: &Case, back: &ReadBack) -> bool {
         && last == Some(usize::from(back.read_out.next))
         && usize::from(back.read_out.length) == case.plan.old.len()
         && back.read_out.bank == BANK_LUMINAIRE_INFO
+        && back.read_out.mode == case.mode
 }
 
 /// The sum of the lengths of the chunks that were accepted before each call, and before the end.
@@ -105,11 +106,12 @@ fn accepted(call: &Call, answer: u16) -> Option<usize> {
 }
 
 /// "The chunk it wants is `chunk_len(bank, next, length − next, budget)`. [..] Wanting: 12, 11, then done. Accepting:
-/// 12, 11, 13, 14; when done, only an empty chunk is accepted". None for an offset that no read-out has, which is 12.
+/// 12, 11, 13, 14; when done, only an empty chunk is accepted", and "the chosen mode's chunk standing for `chunk_len`"
+/// (02, F-4). None for an offset that no read-out has, which is 12.
 fn answer_at(case: &Case, call: &Call, next: usize) -> Option<u16> {
     let length = case.plan.old.len();
     let remaining = length.checked_sub(next)? as u16;
-    let wanted = |budget| chunk_len(BANK_LUMINAIRE_INFO, next as u16, remaining, budget);
+    let wanted = |budget| chunk_len_in(case.mode, BANK_LUMINAIRE_INFO, next as u16, remaining, budget);
     Some(match call {
         Call::Wanting(0) | Call::Accepting(0, _) => refused(Refusal::BudgetZero),
         Call::Wanting(_) if remaining == 0 => 0,

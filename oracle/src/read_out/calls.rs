@@ -1,9 +1,11 @@
 //! A list of calls, each with the read-out last handed back.
 
 use super::{
-    accepting, done, random_budget, random_buffer, random_chunk, random_read_out, sound, wanting, ReadOut, BANKS,
+    accepting, banks_in_modes, done, random_budget, random_buffer, random_chunk, random_read_out, sound, wanting,
+    ReadOut,
 };
-use crate::function::Source;
+use crate::function::{Scale, Source};
+use crate::layout::ChunkMode;
 use crate::line::{Args, Line, Output, Put, Sequence, Take};
 use crate::refusal::Refusal;
 use crate::rng::Rng;
@@ -127,40 +129,40 @@ pub fn answered((start, list, mut buffer, mut answers): ListCase) -> (ReadOut, O
 }
 
 pub fn list_cases(source: &mut Source) -> Vec<ListCase> {
-    let telling = vec![
-        (202, 16, 5),
-        (202, 16, 8),
-        (202, 16, 1),
-        (202, 10, 20),
-        (1, 40, 6),
-        (9, 10, 4),
-        (205, 29, 5),
-        (206, 33, 8),
-        (207, 8, 7),
-        (207, 0, 1),
-    ];
-    let whole = source.scale.pick(every_whole(), telling);
-    let mut cases: Vec<_> =
-        whole.into_iter().map(|(bank, length, budget)| whole_read_out(&mut source.rng, bank, length, budget)).collect();
-    cases.extend(odd_lists(&mut source.rng));
+    let whole = source.scale.pick(every_whole(), telling_whole());
+    let rng = &mut source.rng;
+    let mut cases: Vec<_> = whole.into_iter().map(|(start, budget)| whole_read_out(rng, start, budget)).collect();
+    cases.extend(odd_lists(rng));
     cases
 }
 
-fn every_whole() -> Vec<(u8, u16, u16)> {
-    let mut cases = Vec::new();
-    for bank in BANKS {
-        for length in (0..=64).chain([255, 256]) {
+/// A read-out, and the budget of its calls.
+type Whole = (ReadOut, u16);
+
+fn telling_whole() -> Vec<Whole> {
+    let plain = |(bank, length, budget)| (ReadOut::from_start(bank, length, ChunkMode::Plain), budget);
+    let lamp = |(bank, length, budget)| (ReadOut::from_start(bank, length, ChunkMode::LampCurrent), budget);
+    let mut whole = vec![];
+    whole.extend([(202, 16, 5), (202, 16, 8), (202, 16, 1), (202, 10, 20), (205, 29, 5), (206, 33, 8)].map(plain));
+    whole.extend([(1, 40, 6), (9, 10, 4), (1, 0xC2, 0x9D), (1, 0xC2, 1)].map(plain));
+    whole.extend([(1, 0xC2, 0x9D), (1, 0xC2, 1), (1, 0xC1, 0x9D), (207, 8, 7), (207, 0, 1)].map(lamp));
+    whole
+}
+
+fn every_whole() -> Vec<Whole> {
+    let mut whole = Vec::new();
+    for (bank, mode) in banks_in_modes(Scale::Full) {
+        for length in (0..=64).chain([0xC0, 0xC1, 0xC2, 255, 256]) {
             let budgets = (1..=12).chain([300]);
-            cases.extend(budgets.map(|budget| (bank, length, budget)));
+            whole.extend(budgets.map(|budget| (ReadOut::from_start(bank, length, mode), budget)));
         }
     }
-    cases
+    whole
 }
 
-fn whole_read_out(rng: &mut Rng, bank: u8, length: u16, budget: u16) -> ListCase {
-    let start = ReadOut { bank, length, next: 0 };
+fn whole_read_out(rng: &mut Rng, start: ReadOut, budget: u16) -> ListCase {
     let list = whole_list(rng, start, budget);
-    let buffer = rng.bytes(usize::from(length) + 2);
+    let buffer = rng.bytes(usize::from(start.length) + 2);
     let answers = random_u16s(rng, list.count());
     (start, list, buffer, answers)
 }
@@ -187,7 +189,7 @@ fn odd_lists(rng: &mut Rng) -> Vec<ListCase> {
         for room in [0, 1, 2, 3] {
             let numbers = [5, 5, 8, 7, 5][..numbers].to_vec();
             let list = CallList { numbers, chunks: rng.bytes(chunks) };
-            let start = ReadOut { bank: 202, length: 16, next: 0 };
+            let start = ReadOut::from_start(202, 16, ChunkMode::Plain);
             cases.push((start, list, rng.bytes(17), random_u16s(rng, room)));
         }
     }

@@ -5,7 +5,7 @@ use Rattle.std.proofs.Common.{◌≡◌, sym, ap, ◌∙◌, ℕ, ◌+◌, ◌-�
 use Rattle.std.proofs.lemmas.Result.{err_from_is_err_and}
 use Rattle.bank.specs.Refusal.{first_of}
 use Rattle.bank.specs.ReadOut.{rule_of, advanced, want_checks, wanted_len, Acceptable}
-use Rattle.bank.proofs.Bounds.{chunk_len_bounded}
+use Rattle.bank.proofs.Modes.{every_mode_bounded}
 use Rattle.bank.proofs.Checks.{told_err, told_ok}
 use Rattle.bank.proofs.Reading.{valid, refuses_want, refuses_buffer, refuses_chunk, refused, part_laid, every_chunk_taken_exactly}
 use Rattle.bank.proofs.read_out.ReadOut.accepting.Goals as goal
@@ -23,7 +23,7 @@ ends : (c : Else-chunk-wanted) → (let a = c.args in first_of (want_checks a.se
 ends c passed =
     let a = c.args in
     let r = a.self in
-    omega (arith, wanted c, valid r a.budget passed, chunk_len_bounded.within r.bank r.next (r.length - r.next) a.budget)
+    omega (arith, wanted c, valid r a.budget passed, (every_mode_bounded r.mode).within r.bank r.next (r.length - r.next) a.budget)
 
 pub returns-in_err-check : goal.returns-in_err-check
 returns-in_err-check c =
@@ -40,10 +40,10 @@ returns-then-buffer-self c =
     (refuses_buffer (rule_of a.self) a.self a.budget a.chunk.now a.buffer.now (sound (goal.at.returns-then-buffer-self c).In_ok-check) c.if-buffer-self.true) in
     record { answer = both.0; stored = both.1 }
 
-pub overflow_sub-self : goal.overflow_sub-self
-overflow_sub-self c =
+pub overflow_sub-left : goal.overflow_sub-left
+overflow_sub-left c =
     let a = c.args in
-    (valid a.self a.budget (sound (goal.at.overflow_sub-self c).In_ok-check)).ahead
+    (valid a.self a.budget (sound (goal.at.overflow_sub-left c).In_ok-check)).ahead
 
 pub returns-then-chunk-wanted : goal.returns-then-chunk-wanted
 returns-then-chunk-wanted c =

@@ -32,4 +32,4 @@ overflow_sub-left c =
 
 pub returns : goal.returns
 unfolding wanting
-returns c = rw (sound (goal.at.returns c).In_ok-check, sym c.done.ensures ∙ c.if-done.false) (ap (λ (n : ℕ). Ok (Chunk n)) c.chunk_len.ensures)
+returns c = rw (sound (goal.at.returns c).In_ok-check, sym c.done.ensures ∙ c.if-done.false) (ap (λ (n : ℕ). Ok (Chunk n)) c.chunk_len-len.ensures)
