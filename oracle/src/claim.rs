@@ -13,7 +13,7 @@ use cases::{random_plan, Case};
 use conclusions::{failed, ReadBack};
 
 /// In each mode.
-const ROUNDS: usize = 500;
+const ROUNDS: usize = 1_000;
 
 /// How many plans a round has.
 const PLANS: usize = 50;
@@ -40,7 +40,7 @@ pub fn claim(program: &str, seed: u64) -> io::Result<()> {
     program.end()?;
     let Counts { cuts, calls, done } = counts;
     let plans = ROUNDS * PLANS;
-    println!("checked {plans} plans in each mode, {cuts} cuts, {calls} calls and {done} read-outs that were done, 0 failures");
+    println!("checked {plans} plans in each mode, {cuts} cuts, {calls} calls and {done} read-outs done, 0 failures");
     Ok(())
 }
 

@@ -35,7 +35,8 @@ use lamp_current::lamp_current;
 use round_trip::round_trip;
 
 const USAGE: &str = "usage: oracle compare PROGRAM [SEED] | oracle claim PROGRAM [SEED] \
-    | oracle lamp-current PROGRAM [SEED] | oracle round-trip PROGRAM | oracle list DIR | oracle answer | oracle stores PROGRAM [SEED] | oracle files DIR";
+    | oracle lamp-current PROGRAM [SEED] | oracle round-trip PROGRAM | oracle list DIR | oracle answer \
+    | oracle stores PROGRAM [SEED] | oracle files DIR";
 
 /// The list is the same every time.
 const LIST_SEED: u64 = 251;

@@ -27,7 +27,7 @@ pub const FUNCTIONS: &[&dyn Function] = &[
 ];
 
 /// Any numbers, also those that no call hands out.
-#[derive(Clone, Copy)]
+#[derive(Clone, Copy, PartialEq)]
 pub struct ReadOut {
     pub bank: u8,
     pub length: u16,

@@ -4,7 +4,7 @@ use crate::request::{Request, Take};
 use bank::ChunkMode;
 use bus::BankField;
 
-// By a match, as in main.rt; and so is a mode taken, as in request.rt.
+// By a match, as in main.rt.
 pub(crate) fn answer(number: u8, request: &mut Request, out: &mut Output) {
     match number {
         0x10 => out.put(bus::bank_last_offset(request.take())),

@@ -2,7 +2,7 @@
 -- Assumes nothing.
 use Rattle.std.specs.Prelude.{None, Ok, Option, Some, slice_get}
 use mathlib.Core.Path.{◌≡◌, refl, sym, ap, ◌∙◌}
-use mathlib.Core.List.{List, [], ◌∷◌, ◌++◌, map, append_assoc, append-nil}
+use mathlib.Core.List.{List, [], ◌∷◌, ◌++◌, append_assoc, append-nil}
 use Prim.Native.Nat.{ℕ, ◌+◌, ◌-◌, ◌≤◌, min}
 use native.Mathlib.Nat.{add-zero}
 use native.Mathlib.Omega.{arith}
@@ -17,13 +17,13 @@ use Rattle.bank.specs.Refusal.{Check, first_of}
 use Rattle.bank.specs.Chunk.{ChunkRule, Bounded}
 use Rattle.bank.specs.declared.read_out.Wanted.{Wanted}
 use Rattle.bank.specs.ReadOut.{is_done, laid, wanted_len, wanting, accept_checks, accepting, Acceptable}
-use Rattle.bank.specs.Calls.{Call, want, accept, State, state_of, answer, step, after, answers_of, taken, accepted, HoldsChunk, HoldsChunks, sum, joined, EveryListOfCalls, EveryChunkOfBank}
+use Rattle.bank.specs.Calls.{Call, want, accept, State, state_of, answer, step, after, answers_of, taken, accepted, HoldsChunk, HoldsChunks, bytes_in, joined, EveryListOfCalls, EveryChunkOfBank}
 use Rattle.bank.proofs.Done.{no_bytes, wants_none}
 use Rattle.bank.proofs.Reading as reading
 
 -- ---- lists of chunks
 
-total_append : (a b : List (List ℕ)) → sum (map length (a ++ b)) ≡ sum (map length a) + sum (map length b)
+total_append : (a b : List (List ℕ)) → bytes_in (a ++ b) ≡ bytes_in a + bytes_in b
 total_append [] b = omega arith
 total_append (x ∷ a) b = omega (arith, total_append a b)
 
@@ -64,7 +64,7 @@ mode_stays chunk s (accept budget bytes) = go (first_of (accept_checks chunk s.o
 
 module _ (chunk : ChunkRule) (rule : Bounded chunk) where
   record Stepped (s : State) (c : Call) : Type 0 where
-    next_is : (step chunk s c).out.next ≡ s.out.next + sum (map length (taken chunk s c))
+    next_is : (step chunk s c).out.next ≡ s.out.next + bytes_in (taken chunk s c)
     bank_stays : (step chunk s c).out.bank ≡ s.out.bank
     length_stays : (step chunk s c).out.length ≡ s.out.length
     same_mode : (step chunk s c).out.mode ≡ s.out.mode
@@ -73,7 +73,7 @@ module _ (chunk : ChunkRule) (rule : Bounded chunk) where
     laid_on : (y : List ℕ) → laid (step chunk s c).buffer (step chunk s c).out.next y ≡ laid s.buffer s.out.next (joined (taken chunk s c) ++ y)
     room_stays : length (step chunk s c).buffer ≡ length s.buffer
     -- each chunk has a byte, unless the read-out is done
-    moved : min (length (taken chunk s c)) (s.out.length - s.out.next) ≤ sum (map length (taken chunk s c))
+    moved : min (length (taken chunk s c)) (s.out.length - s.out.next) ≤ bytes_in (taken chunk s c)
 
   stepped : (s : State) (c : Call) → s.out.next ≤ s.out.length → Stepped s c
   stepped s (want budget) h =
@@ -121,14 +121,14 @@ module _ (chunk : ChunkRule) (rule : Bounded chunk) where
   -- ---- all calls
 
   record Ran (s : State) (calls : List Call) : Type 0 where
-    next_is : (after chunk s calls).out.next ≡ s.out.next + sum (map length (accepted chunk s calls))
+    next_is : (after chunk s calls).out.next ≡ s.out.next + bytes_in (accepted chunk s calls)
     bank_stays : (after chunk s calls).out.bank ≡ s.out.bank
     length_stays : (after chunk s calls).out.length ≡ s.out.length
     same_mode : (after chunk s calls).out.mode ≡ s.out.mode
     within : (after chunk s calls).out.next ≤ s.out.length
     buffer_is : (after chunk s calls).buffer ≡ laid s.buffer s.out.next (joined (accepted chunk s calls))
     room_stays : length (after chunk s calls).buffer ≡ length s.buffer
-    moved : min (length (accepted chunk s calls)) (s.out.length - s.out.next) ≤ sum (map length (accepted chunk s calls))
+    moved : min (length (accepted chunk s calls)) (s.out.length - s.out.next) ≤ bytes_in (accepted chunk s calls)
 
   ran : (s : State) (calls : List Call) → s.out.next ≤ s.out.length → Ran s calls
   ran s [] h =
@@ -177,24 +177,24 @@ module _ (chunk : ChunkRule) (rule : Bounded chunk) where
         ok = reading.acceptable chunk s.out budget bytes s.buffer f
 
     taken_of_bank : (s : State) (c : Call) → HoldsChunk chunk bank s c
-        → joined (taken chunk s c) ≡ take (sum (map length (taken chunk s c))) (drop s.out.next bank)
+        → joined (taken chunk s c) ≡ take (bytes_in (taken chunk s c)) (drop s.out.next bank)
     taken_of_bank s (want budget) held = refl
     taken_of_bank s (accept budget bytes) held = go (first_of (accept_checks chunk s.out budget bytes s.buffer)) refl
       where
         go : (o : Option Refusal) → first_of (accept_checks chunk s.out budget bytes s.buffer) ≡ o
-            → joined (taken chunk s (accept budget bytes)) ≡ take (sum (map length (taken chunk s (accept budget bytes)))) (drop s.out.next bank)
+            → joined (taken chunk s (accept budget bytes)) ≡ take (bytes_in (taken chunk s (accept budget bytes))) (drop s.out.next bank)
         go (Some e) f = rw (← (reading.refused chunk s.out budget bytes s.buffer f).0)
         go None f = rw (← (reading.taken chunk s.out budget bytes s.buffer f).0, append-nil, add-zero) (of_bank s budget bytes f held)
 
     all_of_bank : (s : State) (calls : List Call) → s.out.next ≤ s.out.length → HoldsChunks chunk bank s calls
-        → joined (accepted chunk s calls) ≡ take (sum (map length (accepted chunk s calls))) (drop s.out.next bank)
+        → joined (accepted chunk s calls) ≡ take (bytes_in (accepted chunk s calls)) (drop s.out.next bank)
     all_of_bank s [] h held = refl
     all_of_bank s (c ∷ cs) h held =
         let one = stepped s c h in
         let first = taken chunk s c in
         let later = accepted chunk (step chunk s c) cs in
-        let n = sum (map length first) in
-        let m = sum (map length later) in
+        let n = bytes_in first in
+        let m = bytes_in later in
         joined_append first later
         ∙ ap (λ (l : List ℕ). l ++ joined later) (taken_of_bank s c held.0)
         ∙ ap (λ (l : List ℕ). take n (drop s.out.next bank) ++ l)

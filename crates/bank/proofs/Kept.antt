@@ -14,8 +14,8 @@ use Rattle.bank.specs.declared.refusal.Refusal.{Refusal}
 use Rattle.bank.specs.Refusal.{first_of}
 use Rattle.bank.specs.Chunk.{ChunkRule, Bounded}
 use Rattle.bank.specs.ReadOut.{fresh, accept_checks}
-use Rattle.bank.specs.Calls.{Call, want, accept, State, state_of, step, taken, accepted}
-use Rattle.bank.specs.Kept.{Kept, bytes_in, InOneChunk, EveryKeptProperty}
+use Rattle.bank.specs.Calls.{Call, want, accept, State, state_of, step, taken, accepted, bytes_in}
+use Rattle.bank.specs.Kept.{Kept, InOneChunk, EveryKeptProperty}
 use Rattle.bank.proofs.Calls.{every_list_of_calls}
 use Rattle.bank.proofs.Reading as reading
 

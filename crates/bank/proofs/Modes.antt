@@ -6,9 +6,8 @@ use native.Mathlib.Omega.{arith}
 use borrow.Author.Tests.{eqb-true, eqb-false, ltb-true, ltb-false, leb-true, leb-false, eq-eqb, ne_eqb}
 use lib.Dec.{eqb, leb, ltb}
 use Rattle.bus.proofs.Tests.{by_test}
-use Rattle.bank.specs.declared.layout.ChunkMode.{ChunkMode}
 use Rattle.bank.specs.declared.layout.ChunkMode.TheVariants.{Plain, LampCurrent}
-use Rattle.bank.specs.Chunk.{chunk_len, lamp_whole, lamp_len, chunk_in, EveryModeBounded, SameElsewhere}
+use Rattle.bank.specs.Chunk.{chunk_len, lamp_whole, lamp_len, EveryModeBounded, SameElsewhere, Changed, ChangedExactly}
 use Rattle.bank.proofs.Bounds.{Chunked, bounded, chunk_len_chunked, chunk_len_bounded}
 
 -- the chunk in the place of one of n bytes
@@ -17,7 +16,7 @@ module _ (o remaining n : ℕ) where
     pub within : m ≤ max n remaining
     pub few : m ≤ max n 2
     pub some : min n 1 ≤ m
-    pub same : (o + n ≡ 0xC1 → ⊥) → m ≡ n
+    pub changed : Changed o remaining n m
     -- it does not end between the two bytes, where it doesn't begin there and both remain
     pub apart : (o ≡ 0xC1 → ⊥) → (o ≡ 0xC0 → 2 ≤ remaining) → o + m ≡ 0xC1 → ⊥
 
@@ -62,20 +61,12 @@ module _ (bank o remaining budget : ℕ) where
       let of_plain = chunk_len_chunked bank o remaining budget in
       of_any_bank (Chunked remaining budget) of_plain (omega (arith, lamp o remaining plain, of_plain))
 
-  lamp_same : (o + plain ≡ 0xC1 → ⊥) → lamp_len bank o remaining budget ≡ plain
-  lamp_same h = of_any_bank (λ (n : ℕ). n ≡ plain) refl ((lamp o remaining plain).same h)
-
 pub every_mode_bounded : EveryModeBounded
 every_mode_bounded Plain = chunk_len_bounded
 every_mode_bounded LampCurrent = bounded lamp_chunked
 
 pub same_elsewhere : SameElsewhere
-same_elsewhere bank o remaining budget = record { plain = refl; other_bank = other_bank; other_end = other_end }
-  where
-    other_bank : (mode : ChunkMode) → (bank ≡ 1 → ⊥) → chunk_in mode bank o remaining budget ≡ chunk_len bank o remaining budget
-    other_bank Plain h = refl
-    other_bank LampCurrent h = lamp_elsewhere bank o remaining budget h
+same_elsewhere bank o remaining budget = record { plain = refl; other_bank = lamp_elsewhere bank o remaining budget }
 
-    other_end : (mode : ChunkMode) → (o + chunk_len bank o remaining budget ≡ 0xC1 → ⊥) → chunk_in mode bank o remaining budget ≡ chunk_len bank o remaining budget
-    other_end Plain h = refl
-    other_end LampCurrent h = lamp_same bank o remaining budget h
+pub changed_exactly : ChangedExactly
+changed_exactly o remaining budget = rw (lamp_here 1 o remaining budget refl) (lamp o remaining (chunk_len 1 o remaining budget)).changed

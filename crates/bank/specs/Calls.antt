@@ -86,6 +86,10 @@ abbrev pub sum : List ℕ → ℕ
 sum [] = 0
 sum (x ∷ xs) = x + sum xs
 
+-- "the sum of the accepted chunks' lengths": where the next one begins
+abbrev pub bytes_in : List (List ℕ) → ℕ
+bytes_in chunks = sum (map length chunks)
+
 abbrev pub joined : List (List ℕ) → List ℕ
 joined [] = []
 joined (x ∷ xs) = x ++ joined xs
@@ -93,7 +97,7 @@ joined (x ∷ xs) = x ++ joined xs
 -- What holds behind a list of calls, whatever chunks they bring.
 pub record Behind (chunk : ChunkRule) (s : State) (calls : List Call) : Type 0 where
   -- "The next offset is the sum of the accepted chunks' lengths"; bank, length and mode stay
-  pub next_is : (after chunk s calls).out.next ≡ s.out.next + sum (map length (accepted chunk s calls))
+  pub next_is : (after chunk s calls).out.next ≡ s.out.next + bytes_in (accepted chunk s calls)
   pub bank_stays : (after chunk s calls).out.bank ≡ s.out.bank
   pub length_stays : (after chunk s calls).out.length ≡ s.out.length
   pub mode_stays : (after chunk s calls).out.mode ≡ s.out.mode
@@ -113,7 +117,7 @@ abbrev pub EveryChunkOfBank : Type 0
 EveryChunkOfBank =
     (chunk : ChunkRule) → Bounded chunk → (bank : List ℕ) (s : State) → s.out.next ≤ s.out.length → (calls : List Call) →
     HoldsChunks chunk bank s calls →
-    joined (accepted chunk s calls) ≡ take (sum (map length (accepted chunk s calls))) (drop s.out.next bank)
+    joined (accepted chunk s calls) ≡ take (bytes_in (accepted chunk s calls)) (drop s.out.next bank)
 
 -- ---- calls that are lent in a slice
 

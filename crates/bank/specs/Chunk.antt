@@ -95,13 +95,21 @@ chunk_in LampCurrent = lamp_len
 abbrev pub EveryModeBounded : Type 0
 EveryModeBounded = (mode : ChunkMode) → Bounded (chunk_in mode)
 
--- "All else equals `chunk_len`", "for other banks it equals `chunk_len`", and so does the plain mode
+-- "for other banks it equals `chunk_len`", and so does the plain mode
 pub record Same (bank o remaining budget : ℕ) : Type 0 where
   pub plain : chunk_in Plain bank o remaining budget ≡ chunk_len bank o remaining budget
-  pub other_bank : (mode : ChunkMode) → (bank ≡ 1 → ⊥) → chunk_in mode bank o remaining budget ≡ chunk_len bank o remaining budget
-  pub other_end :
-      (mode : ChunkMode) → (o + chunk_len bank o remaining budget ≡ 0xC1 → ⊥) →
-      chunk_in mode bank o remaining budget ≡ chunk_len bank o remaining budget
+  pub other_bank : (bank ≡ 1 → ⊥) → chunk_in LampCurrent bank o remaining budget ≡ chunk_len bank o remaining budget
 
 abbrev pub SameElsewhere : Type 0
 SameElsewhere = (bank o remaining budget : ℕ) → Same bank o remaining budget
+
+-- What the mode makes of a present answer: "one byte shorter if it has more than one byte; a single byte at C0 becomes two if two
+-- remain. All else equals `chunk_len`"
+pub record Changed (o remaining present len : ℕ) : Type 0 where
+  pub shorter : o + present ≡ 0xC1 → 2 ≤ present → len + 1 ≡ present
+  pub two : o ≡ 0xC0 → present ≡ 1 → 2 ≤ remaining → len ≡ 2
+  pub all_else : (o + present ≡ 0xC1 → present ≤ 1) → (o ≡ 0xC0 → present ≡ 1 → remaining < 2) → len ≡ present
+
+abbrev pub ChangedExactly : Type 0
+ChangedExactly =
+    (o remaining budget : ℕ) → Changed o remaining (chunk_len 1 o remaining budget) (chunk_in LampCurrent 1 o remaining budget)

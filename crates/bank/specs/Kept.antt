@@ -1,20 +1,16 @@
--- 02, F-4: a property of the next offset that each chunk keeps holds where every accepted chunk begins and ends. For any
+-- For 02, F-4: a property of the next offset that each chunk keeps holds where every accepted chunk begins and ends. For any
 -- chunk rule that has the bounds.
 -- Assumes nothing.
-use Rattle.std.specs.Prelude.{◌≡◌, List, ◌∷◌, ◌++◌, map, ℕ, ◌+◌, ◌-◌, ◌≤◌, ◌<◌, length}
+use Rattle.std.specs.Prelude.{◌≡◌, List, ◌∷◌, ◌++◌, ℕ, ◌+◌, ◌-◌, ◌≤◌, ◌<◌, length}
 use Rattle.bank.specs.declared.layout.ChunkMode.{ChunkMode}
 use Rattle.bank.specs.Chunk.{ChunkRule, Bounded}
 use Rattle.bank.specs.ReadOut.{fresh}
-use Rattle.bank.specs.Calls.{Call, State, state_of, after, accepted, sum}
+use Rattle.bank.specs.Calls.{Call, State, state_of, after, accepted, bytes_in}
 
 -- a property that holds of the first offset, and behind each chunk where it holds before it
 pub record Kept (chunk : ChunkRule) (bank len : ℕ) (stands : ℕ → Type 0) : Type 0 where
   pub first : stands 0
   pub next : (o budget : ℕ) → o ≤ len → stands o → stands (o + chunk bank o (len - o) budget)
-
--- the bytes of chunks: where the next one begins
-abbrev pub bytes_in : List (List ℕ) → ℕ
-bytes_in chunks = sum (map length chunks)
 
 -- n bytes from an offset on come in one of the chunks
 pub record InOneChunk (o n : ℕ) (chunks : List (List ℕ)) : Type 0 where

@@ -5,10 +5,12 @@ ghost use Rattle.bank.specs.Chunk.{fields_from, with_further, whole_fields, chun
 use bus::part251::LAMP_CURRENT_OFFSET;
 use bus::{BANK_LUMINAIRE_INFO, BankField, bank_field_map};
 
-// The first byte of the lamp current, and the second.
 const LAMP_CURRENT: u16 = LAMP_CURRENT_OFFSET as u16;
 
-const LAMP_CURRENT_LOW: u16 = LAMP_CURRENT + 1;
+const LAMP_CURRENT_LEN: u16 = 2;
+
+// Its low byte, which is its last.
+const LAMP_CURRENT_LOW: u16 = LAMP_CURRENT + LAMP_CURRENT_LEN - 1;
 
 // The fields from the one that starts at the offset on; none where none does.
 fn fields_from(fields: &[BankField], offset: u16) -> &[BankField]
@@ -65,11 +67,12 @@ pub fn chunk_len(bank: u8, offset: u16, remaining: u16, budget: u16) -> u16
 pub enum ChunkMode {
     // `chunk_len`.
     Plain,
-    // The same, but the lamp current of bank 1 comes whole, which a driver may change between two reads.
+    // The same, but the lamp current of bank 1 in format 5, which a driver may change between two reads, comes in one.
     LampCurrent,
 }
 
-// The chunk in the place of one that parts the lamp current. One that can't take the second byte stays as it is.
+// The chunk in the place of one that may part the lamp current: a longer one leaves out its first byte, and a single byte
+// takes the second with it if that remains.
 fn lamp_whole(offset: u16, remaining: u16, len: u16) -> u16
     ensures { result ≡ lamp_whole offset remaining len }
 {
@@ -78,8 +81,8 @@ fn lamp_whole(offset: u16, remaining: u16, len: u16) -> u16
     }
     if 1 < len {
         len - 1
-    } else if offset == LAMP_CURRENT && 2 <= remaining {
-        2
+    } else if offset == LAMP_CURRENT && LAMP_CURRENT_LEN <= remaining {
+        LAMP_CURRENT_LEN
     } else {
         len
     }

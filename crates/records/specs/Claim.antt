@@ -15,7 +15,7 @@ use Rattle.bank.specs.declared.layout.ChunkMode.{ChunkMode}
 use Rattle.bank.specs.declared.layout.ChunkMode.TheVariants.{Plain}
 use Rattle.bank.specs.Chunk.{chunk_in}
 use Rattle.bank.specs.ReadOut.{fresh, advanced, is_done, starting}
-use Rattle.bank.specs.Calls.{Call, State, state_of, answer, answers_of, after, accepted, sum, HoldsChunks}
+use Rattle.bank.specs.Calls.{Call, State, state_of, answer, answers_of, after, accepted, bytes_in, HoldsChunks}
 use Rattle.records.specs.declared.luminaire_write.Plan.{Plan}
 use Rattle.records.specs.Places.{is_there}
 use Rattle.records.specs.Text.{as_text}
@@ -93,7 +93,7 @@ module _ (mode : ChunkMode) (bank buffer : List ℕ) where
 
   -- "the sum of the accepted chunks' lengths"
   abbrev pub fetched : List Call → ℕ
-  fetched calls = sum (map length (chunks_of calls))
+  fetched calls = bytes_in (chunks_of calls)
 
   -- the read-out at that offset
   abbrev pub standing : List Call → ReadOut
