@@ -13,10 +13,10 @@ use lib.Seq.{take_at, drop_at, length-take-le, drop-drop, take-add}
 use Rattle.bus.proofs.Tests.{by_test}
 use Rattle.bank.specs.declared.read_out.ReadOut.{ReadOut}
 use Rattle.bank.specs.declared.refusal.Refusal.{Refusal}
-use Rattle.bank.specs.Refusal.{Check, first_of}
+use Rattle.bank.specs.Refusal.{first_of}
 use Rattle.bank.specs.Chunk.{ChunkRule, Bounded}
 use Rattle.bank.specs.declared.read_out.Wanted.{Wanted}
-use Rattle.bank.specs.ReadOut.{is_done, laid, wanted_len, wanting, accept_checks, accepting, Acceptable}
+use Rattle.bank.specs.ReadOut.{advanced, is_done, laid, wanted_len, wanting, accept_checks, accepting, Acceptable}
 use Rattle.bank.specs.Calls.{Call, want, accept, State, state_of, answer, step, after, answers_of, taken, accepted, HoldsChunk, HoldsChunks, bytes_in, joined, EveryListOfCalls, EveryChunkOfBank}
 use Rattle.bank.proofs.Done.{no_bytes, wants_none}
 use Rattle.bank.proofs.Reading as reading
@@ -53,32 +53,47 @@ laid_length d at x h = simp (length-append, length-take, length-drop) (omega ari
 
 -- ---- one call
 
--- a read-out keeps its mode
-pub mode_stays : (chunk : ChunkRule) (s : State) (c : Call) → (step chunk s c).out.mode ≡ s.out.mode
-mode_stays chunk s (want budget) = refl
-mode_stays chunk s (accept budget bytes) = go (first_of (accept_checks chunk s.out budget bytes s.buffer)) refl
-  where
-    go : (o : Option Refusal) → first_of (accept_checks chunk s.out budget bytes s.buffer) ≡ o → (step chunk s (accept budget bytes)).out.mode ≡ s.out.mode
-    go (Some e) f = rw (← (reading.refused chunk s.out budget bytes s.buffer f).0)
-    go None f = rw (← (reading.taken chunk s.out budget bytes s.buffer f).0)
+module _ (chunk : ChunkRule) (s : State) (c : Call) where
+  -- the state behind an accepted chunk
+  abbrev pub behind_chunk : List ℕ → State
+  behind_chunk bytes = state_of (advanced s.out (length bytes)) (laid s.buffer s.out.next bytes)
+
+  -- A call leaves its state as it is, or takes a chunk. What holds in both cases holds behind every call.
+  pub by_call : (P : State → List (List ℕ) → Type 0) → P s []
+      → ((budget : ℕ) (bytes : List ℕ) → c ≡ accept budget bytes → Acceptable chunk s.out budget bytes s.buffer → P (behind_chunk bytes) (bytes ∷ []))
+      → P (step chunk s c) (taken chunk s c)
+  by_call P left took = of c refl
+    where
+      of : (d : Call) → c ≡ d → P (step chunk s d) (taken chunk s d)
+      of (want budget) is = left
+      of (accept budget bytes) is = go (first_of (accept_checks chunk s.out budget bytes s.buffer)) refl
+        where
+          go : (o : Option Refusal) → first_of (accept_checks chunk s.out budget bytes s.buffer) ≡ o
+              → P (step chunk s (accept budget bytes)) (taken chunk s (accept budget bytes))
+          go (Some e) f = let both = reading.refused chunk s.out budget bytes s.buffer f in rw (← both.0, ← both.1) left
+          go None f =
+              let both = reading.taken chunk s.out budget bytes s.buffer f in
+              rw (← both.0, ← both.1) (took budget bytes is (reading.acceptable chunk s.out budget bytes s.buffer f))
+
+  -- a read-out keeps its mode
+  pub mode_stays : (step chunk s c).out.mode ≡ s.out.mode
+  mode_stays = by_call (λ t xs. t.out.mode ≡ s.out.mode) refl (λ budget bytes is ok. refl)
+
+-- from a state to the one that takes these chunks, at most one
+record Stepped (s t : State) (xs : List (List ℕ)) : Type 0 where
+  next_is : t.out.next ≡ s.out.next + bytes_in xs
+  bank_stays : t.out.bank ≡ s.out.bank
+  length_stays : t.out.length ≡ s.out.length
+  within : t.out.next ≤ s.out.length
+  -- what is laid behind it is laid behind its chunk
+  laid_on : (y : List ℕ) → laid t.buffer t.out.next y ≡ laid s.buffer s.out.next (joined xs ++ y)
+  room_stays : length t.buffer ≡ length s.buffer
+  -- each chunk has a byte, unless the read-out is done
+  moved : min (length xs) (s.out.length - s.out.next) ≤ bytes_in xs
 
 module _ (chunk : ChunkRule) (rule : Bounded chunk) where
-  record Stepped (s : State) (c : Call) : Type 0 where
-    next_is : (step chunk s c).out.next ≡ s.out.next + bytes_in (taken chunk s c)
-    bank_stays : (step chunk s c).out.bank ≡ s.out.bank
-    length_stays : (step chunk s c).out.length ≡ s.out.length
-    same_mode : (step chunk s c).out.mode ≡ s.out.mode
-    within : (step chunk s c).out.next ≤ s.out.length
-    -- what is laid behind it is laid behind its chunk
-    laid_on : (y : List ℕ) → laid (step chunk s c).buffer (step chunk s c).out.next y ≡ laid s.buffer s.out.next (joined (taken chunk s c) ++ y)
-    room_stays : length (step chunk s c).buffer ≡ length s.buffer
-    -- each chunk has a byte, unless the read-out is done
-    moved : min (length (taken chunk s c)) (s.out.length - s.out.next) ≤ bytes_in (taken chunk s c)
-
-  stepped : (s : State) (c : Call) → s.out.next ≤ s.out.length → Stepped s c
-  stepped s (want budget) h =
-      record { next_is = omega arith; bank_stays = refl; length_stays = refl; same_mode = refl; within = h; laid_on = λ y. refl; room_stays = refl; moved = omega arith }
-  stepped s (accept budget bytes) h = go (first_of checks) refl
+  stepped : (s : State) (c : Call) → s.out.next ≤ s.out.length → Stepped s (step chunk s c) (taken chunk s c)
+  stepped s c h = by_call chunk s c (Stepped s) unmoved (λ budget bytes is ok. moved_on budget bytes ok)
     where
       r : ReadOut
       r = s.out
@@ -86,36 +101,21 @@ module _ (chunk : ChunkRule) (rule : Bounded chunk) where
       left : ℕ
       left = r.length - r.next
 
-      checks : List Check
-      checks = accept_checks chunk r budget bytes s.buffer
+      unmoved : Stepped s s []
+      unmoved = record { next_is = omega arith; bank_stays = refl; length_stays = refl; within = h; laid_on = λ y. refl; room_stays = refl; moved = omega arith }
 
-      go : (o : Option Refusal) → first_of checks ≡ o → Stepped s (accept budget bytes)
-      go (Some e) f =
-          let both = reading.refused chunk r budget bytes s.buffer f in
-          record {
-            next_is = rw (← both.0) (omega arith);
-            bank_stays = rw (← both.0);
-            length_stays = rw (← both.0);
-            same_mode = mode_stays chunk s (accept budget bytes);
-            within = rw (← both.0) h;
-            laid_on = λ y. rw (← both.0, ← both.1);
-            room_stays = rw (← both.1);
-            moved = rw (← both.0) (omega arith);
-          }
-      go None f =
-          let both = reading.taken chunk r budget bytes s.buffer f in
-          let ok = reading.acceptable chunk r budget bytes s.buffer f in
+      moved_on : (budget : ℕ) (bytes : List ℕ) → Acceptable chunk r budget bytes s.buffer → Stepped s (behind_chunk chunk s c bytes) (bytes ∷ [])
+      moved_on budget bytes ok =
           let most : wanted_len chunk r budget ≤ left = rule.within r.bank r.next left budget in
           let least : min 1 left ≤ wanted_len chunk r budget = by_test (ltb 0 left) (λ t. omega (arith, rule.some r.bank r.next left budget (ltb-true 0 left t) ok.valid.paid)) (λ t. omega (arith, ltb-false 0 left t)) in
           record {
-            next_is = rw (← both.0) (omega arith);
-            bank_stays = rw (← both.0);
-            length_stays = rw (← both.0);
-            same_mode = mode_stays chunk s (accept budget bytes);
-            within = rw (← both.0) (omega arith);
-            laid_on = λ y. rw (← both.0, ← both.1, append-nil) (laid_behind s.buffer r.next bytes y (omega arith));
-            room_stays = rw (← both.1) (laid_length s.buffer r.next bytes (omega (arith, ok)));
-            moved = rw (← both.0) (omega arith);
+            next_is = omega arith;
+            bank_stays = refl;
+            length_stays = refl;
+            within = omega (arith, ok);
+            laid_on = λ y. rw append-nil (laid_behind s.buffer r.next bytes y (omega (arith, ok)));
+            room_stays = laid_length s.buffer r.next bytes (omega (arith, ok));
+            moved = omega (arith, ok);
           }
 
   -- ---- all calls
@@ -152,7 +152,7 @@ module _ (chunk : ChunkRule) (rule : Bounded chunk) where
         next_is = omega (arith, one, rest, total);
         bank_stays = rest.bank_stays ∙ one.bank_stays;
         length_stays = rest.length_stays ∙ one.length_stays;
-        same_mode = rest.same_mode ∙ one.same_mode;
+        same_mode = rest.same_mode ∙ mode_stays chunk s c;
         within = omega (arith, one, rest);
         buffer_is = rest.buffer_is ∙ one.laid_on (joined later) ∙ ap (laid s.buffer s.out.next) (sym (joined_append first later));
         room_stays = rest.room_stays ∙ one.room_stays;
@@ -163,28 +163,21 @@ module _ (chunk : ChunkRule) (rule : Bounded chunk) where
 
   module _ (bank : List ℕ) where
     -- an accepted chunk is the bank's bytes from the next offset on; one that is accepted when the read-out is done is empty
-    of_bank : (s : State) (budget : ℕ) (bytes : List ℕ) → first_of (accept_checks chunk s.out budget bytes s.buffer) ≡ None
+    of_bank : (s : State) (budget : ℕ) (bytes : List ℕ) → Acceptable chunk s.out budget bytes s.buffer
         → HoldsChunk chunk bank s (accept budget bytes) → bytes ≡ take (length bytes) (drop s.out.next bank)
     unfolding wanting
-    of_bank s budget bytes f held =
+    of_bank s budget bytes ok held =
         by_test (is_done s.out)
         (λ t.
         let none_left : bytes ≡ [] = no_bytes bytes (omega (arith, ok, wants_none chunk rule s.out budget (eqb-true s.out.next s.out.length t))) in
         rw none_left)
         (λ t. held (rw (reading.valid_passes s.out budget ok.valid, t) (ap (λ (n : ℕ). Ok (Wanted.Chunk n)) (sym ok.exact))))
-      where
-        ok : Acceptable chunk s.out budget bytes s.buffer
-        ok = reading.acceptable chunk s.out budget bytes s.buffer f
 
     taken_of_bank : (s : State) (c : Call) → HoldsChunk chunk bank s c
         → joined (taken chunk s c) ≡ take (bytes_in (taken chunk s c)) (drop s.out.next bank)
-    taken_of_bank s (want budget) held = refl
-    taken_of_bank s (accept budget bytes) held = go (first_of (accept_checks chunk s.out budget bytes s.buffer)) refl
-      where
-        go : (o : Option Refusal) → first_of (accept_checks chunk s.out budget bytes s.buffer) ≡ o
-            → joined (taken chunk s (accept budget bytes)) ≡ take (bytes_in (taken chunk s (accept budget bytes))) (drop s.out.next bank)
-        go (Some e) f = rw (← (reading.refused chunk s.out budget bytes s.buffer f).0)
-        go None f = rw (← (reading.taken chunk s.out budget bytes s.buffer f).0, append-nil, add-zero) (of_bank s budget bytes f held)
+    taken_of_bank s c held =
+        by_call chunk s c (λ t xs. joined xs ≡ take (bytes_in xs) (drop s.out.next bank)) refl
+        (λ budget bytes is ok. rw (append-nil, add-zero) (of_bank s budget bytes ok (rw is at held)))
 
     all_of_bank : (s : State) (calls : List Call) → s.out.next ≤ s.out.length → HoldsChunks chunk bank s calls
         → joined (accepted chunk s calls) ≡ take (bytes_in (accepted chunk s calls)) (drop s.out.next bank)

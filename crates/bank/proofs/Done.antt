@@ -1,4 +1,4 @@
--- What "done" means, for any chunk rule that has the bounds.
+-- What a read-out wants, and what "done" means for any chunk rule that has the bounds.
 -- Assumes nothing.
 use Rattle.std.specs.Prelude.{None, Ok, Option, Some}
 use mathlib.Core.Path.{◌≡◌, refl, sym, ap, ◌∙◌}
@@ -6,7 +6,7 @@ use mathlib.Core.List.{List, [], ◌∷◌}
 use Prim.Native.Nat.{ℕ, ◌-◌, ◌≤◌}
 use native.Mathlib.Nat.{add-zero}
 use native.Mathlib.Omega.{arith}
-use borrow.Author.Tests.{eq-eqb, eqb-true}
+use borrow.Author.Tests.{eq-eqb, ne_eqb, eqb-true}
 use lib.ListN.{length}
 use Rattle.bus.proofs.Tests.{by_test}
 use Rattle.bank.specs.declared.refusal.Refusal.{Refusal}
@@ -14,7 +14,7 @@ use Rattle.bank.specs.declared.read_out.ReadOut.{ReadOut}
 use Rattle.bank.specs.declared.read_out.Wanted.TheVariants.{Done, Chunk}
 use Rattle.bank.specs.Refusal.{first_of}
 use Rattle.bank.specs.Chunk.{ChunkRule, Bounded}
-use Rattle.bank.specs.ReadOut.{is_done, want_checks, wanted_len, wanting, accept_checks, accepting, buffer_after, Valid, EveryReadOutDoneRight}
+use Rattle.bank.specs.ReadOut.{is_done, want_checks, wanted_len, wanting, accept_checks, accepting, buffer_after, Valid, EveryChunkWanted, EveryReadOutDoneRight}
 use Rattle.bank.proofs.Reading.{valid_passes, refused, taken, every_chunk_taken_exactly, nothing_laid}
 
 pub no_bytes : (l : List ℕ) → length l ≤ 0 → l ≡ []
@@ -52,6 +52,10 @@ module _ (chunk : ChunkRule) (rule : Bounded chunk) (r : ReadOut) (budget : ℕ)
       go : (o : Option Refusal) → first_of (accept_checks chunk r budget [] buffer) ≡ o → buffer_after chunk r budget [] buffer ≡ buffer
       go None f = sym (taken chunk r budget [] buffer f).1 ∙ nothing_laid buffer r.next
       go (Some x) f = sym (refused chunk r budget [] buffer f).1
+
+pub every_chunk_wanted : EveryChunkWanted
+unfolding wanting
+every_chunk_wanted r budget v h = rw (valid_passes r budget v, ne_eqb r.next r.length (omega arith))
 
 pub every_read_out_done_right : EveryReadOutDoneRight
 unfolding wanting

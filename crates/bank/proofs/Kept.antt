@@ -1,6 +1,5 @@
 -- A property of the next offset that each chunk keeps holds where every accepted chunk begins and ends.
 -- Assumes nothing.
-use Rattle.std.specs.Prelude.{None, Option, Some}
 use mathlib.Core.Path.{◌≡◌, refl}
 use mathlib.Core.List.{List, [], ◌∷◌, ◌++◌}
 use Prim.Native.Nat.{ℕ, ◌+◌, ◌-◌, ◌≤◌, ◌<◌}
@@ -10,14 +9,11 @@ use borrow.Author.Tests.{leb-true, leb-false}
 use lib.Dec.{leb}
 use lib.ListN.{length}
 use Rattle.bus.proofs.Tests.{by_test}
-use Rattle.bank.specs.declared.refusal.Refusal.{Refusal}
-use Rattle.bank.specs.Refusal.{first_of}
 use Rattle.bank.specs.Chunk.{ChunkRule, Bounded}
-use Rattle.bank.specs.ReadOut.{fresh, accept_checks}
-use Rattle.bank.specs.Calls.{Call, want, accept, State, state_of, step, taken, accepted, bytes_in}
+use Rattle.bank.specs.ReadOut.{fresh, Acceptable}
+use Rattle.bank.specs.Calls.{Call, State, state_of, step, taken, accepted, bytes_in}
 use Rattle.bank.specs.Kept.{Kept, InOneChunk, EveryKeptProperty}
-use Rattle.bank.proofs.Calls.{every_list_of_calls}
-use Rattle.bank.proofs.Reading as reading
+use Rattle.bank.proofs.Calls.{behind_chunk, by_call, every_list_of_calls}
 
 -- ---- a list of chunks, from an offset on
 
@@ -79,33 +75,26 @@ module _ (chunk : ChunkRule) (rule : Bounded chunk) (bank len : ℕ) (stands : �
     ahead : s.out.next ≤ len
     here : stands s.out.next
 
-  record Stepped (s : State) (c : Call) : Type 0 where
-    stays : Standing (step chunk s c)
-    behind : (later : List (List ℕ)) → AllStand stands (step chunk s c).out.next later → AllStand stands s.out.next (taken chunk s c ++ later)
+  record Stepped (s t : State) (xs : List (List ℕ)) : Type 0 where
+    stays : Standing t
+    behind : (later : List (List ℕ)) → AllStand stands t.out.next later → AllStand stands s.out.next (xs ++ later)
 
-  stepped : (s : State) (c : Call) → Standing s → Stepped s c
+  stepped : (s : State) (c : Call) → Standing s → Stepped s (step chunk s c) (taken chunk s c)
   unfolding AllStand
-  stepped s (want budget) k = record { stays = k; behind = λ later a. a }
-  stepped s (accept budget bytes) k = go (first_of (accept_checks chunk s.out budget bytes s.buffer)) refl
+  stepped s c k = by_call chunk s c (Stepped s) (record { stays = k; behind = λ later a. a }) (λ budget bytes is ok. moved_on budget bytes ok)
     where
-      go : (o : Option Refusal) → first_of (accept_checks chunk s.out budget bytes s.buffer) ≡ o → Stepped s (accept budget bytes)
-      go (Some e) f =
-          let both = reading.refused chunk s.out budget bytes s.buffer f in
-          record { stays = rw (← both.0, ← both.1) k; behind = rw (← both.0) (λ later a. a) }
-      go None f =
-          let both = reading.taken chunk s.out budget bytes s.buffer f in
-          let ok = reading.acceptable chunk s.out budget bytes s.buffer f in
+      moved_on : (budget : ℕ) (bytes : List ℕ) → Acceptable chunk s.out budget bytes s.buffer → Stepped s (behind_chunk chunk s c bytes) (bytes ∷ [])
+      moved_on budget bytes ok =
           let exact : length bytes ≡ chunk bank s.out.next (len - s.out.next) budget = rw (k.of_bank, k.of_len) at ok.exact in
-          let next : stands (s.out.next + length bytes) = rw exact (kept.next s.out.next budget k.ahead k.here) in
           record {
-            stays = rw (← both.0)
-                (record {
+            stays =
+                record {
                   of_bank = k.of_bank;
                   of_len = k.of_len;
                   ahead = omega (arith, exact, k.ahead, rule.within bank s.out.next (len - s.out.next) budget);
-                  here = next;
-                });
-            behind = rw (← both.0) (λ later a. (k.here, a));
+                  here = rw exact (kept.next s.out.next budget k.ahead k.here);
+                };
+            behind = λ later a. (k.here, a);
           }
 
   all_stand : (s : State) (calls : List Call) → Standing s → AllStand stands s.out.next (accepted chunk s calls)

@@ -14,8 +14,16 @@ use Rattle.bank.specs.declared.refusal.Refusal.TheVariants.{SliceTooShort, Wrong
 use Rattle.bank.specs.declared.read_out.ReadOut.{ReadOut}
 use Rattle.bank.specs.Refusal.{Check, first_of}
 use Rattle.bank.specs.Chunk.{ChunkRule}
-use Rattle.bank.specs.ReadOut.{advanced, want_checks, short_buffer, laid, wanted_len, other_chunk, accept_checks, accepting, buffer_after, Valid, Acceptable, EveryChunkTakenExactly}
+use Rattle.bank.specs.ReadOut.{advanced, want_checks, short_buffer, laid, wanted_len, other_chunk, accept_checks, accepting, buffer_after, Valid, Acceptable, EveryReadOutStartedExactly, EveryChunkTakenExactly}
 use Rattle.bank.proofs.Checks.{not_both, Passed, refused_first, passed_first, passed, or_left, or_right}
+
+pub every_read_out_started_exactly : EveryReadOutStartedExactly
+unfolding first_of
+every_read_out_started_exactly bank len mode =
+    record {
+      accepted = λ h. rw (le-ltb 256 len h, le-ltb len 0 (omega arith));
+      refused = λ h. rw (lt-ltb 256 len h);
+    }
 
 valid_of : (r : ReadOut) (budget : ℕ) → Passed (want_checks r budget) → Valid r budget
 valid_of r budget tests =

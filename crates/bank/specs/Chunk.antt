@@ -92,6 +92,7 @@ abbrev pub chunk_in : ChunkMode → ChunkRule
 chunk_in Plain = chunk_len
 chunk_in LampCurrent = lamp_len
 
+-- either has the bounds
 abbrev pub EveryModeBounded : Type 0
 EveryModeBounded = (mode : ChunkMode) → Bounded (chunk_in mode)
 

@@ -1,7 +1,7 @@
 -- 01, "The read-out": what starting, wanting and accepting answer, and what accepting leaves in the lent buffer. The
 -- chunk rule is a parameter; the calls use that of the read-out.
 -- Assumes nothing.
-use Rattle.std.specs.Prelude.{◌≡◌, Bool, not, cond, ◌||◌, List, [], ◌∷◌, ◌++◌, ℕ, ◌+◌, ◌-◌, ◌≤◌, eqb, ltb, length, take, drop, Err, Ok, Result}
+use Rattle.std.specs.Prelude.{◌≡◌, Bool, not, cond, ◌||◌, List, [], ◌∷◌, ◌++◌, ℕ, ◌+◌, ◌-◌, ◌≤◌, ◌<◌, eqb, ltb, length, take, drop, Err, Ok, Result}
 use Rattle.bank.specs.declared.layout.ChunkMode.{ChunkMode}
 use Rattle.bank.specs.declared.refusal.Refusal.{Refusal}
 use Rattle.bank.specs.declared.refusal.Refusal.TheVariants.{BudgetZero, ReadOutInvalid, SliceTooShort, WrongChunkLength}
@@ -42,6 +42,14 @@ short_buffer r buffer = SliceTooShort when ltb (length buffer) r.length
 abbrev pub starting : ℕ → ℕ → ChunkMode → Result ReadOut Refusal
 starting bank len mode = checked (invalid (fresh bank len mode) ∷ []) Err (Ok (fresh bank len mode))
 
+-- A read-out is started of the bank, the length and the mode that are asked for, exactly where the length is "0 to 256".
+pub record StartedExactly (bank len : ℕ) (mode : ChunkMode) : Type 0 where
+  pub accepted : len ≤ 256 → starting bank len mode ≡ Ok (record { bank = bank; length = len; next = 0; mode = mode })
+  pub refused : 256 < len → starting bank len mode ≡ Err ReadOutInvalid
+
+abbrev pub EveryReadOutStartedExactly : Type 0
+EveryReadOutStartedExactly = (bank len : ℕ) (mode : ChunkMode) → StartedExactly bank len mode
+
 -- "Wanting: 12, 11"
 abbrev pub want_checks : ReadOut → ℕ → List Check
 want_checks r budget = invalid r ∷ no_budget budget ∷ []
@@ -51,7 +59,7 @@ unfoldable pub laid : List ℕ → ℕ → List ℕ → List ℕ
 laid buffer at bytes = take at buffer ++ bytes ++ drop (at + length bytes) buffer
 
 module _ (chunk : ChunkRule) where
-  -- "The chunk it wants is `chunk_len(bank, next, length − next, budget)`", "the chosen mode's chunk standing for `chunk_len`"
+  -- the chunk it wants by the rule
   abbrev pub wanted_len : ReadOut → ℕ → ℕ
   wanted_len r budget = chunk r.bank r.next (r.length - r.next) budget
 
@@ -83,6 +91,13 @@ pub record Valid (r : ReadOut) (budget : ℕ) : Type 0 where
   pub short : r.length ≤ 256
   pub ahead : r.next ≤ r.length
   pub paid : 1 ≤ budget
+
+-- "The chunk it wants is `chunk_len(bank, next, length − next, budget)`", "the chosen mode's chunk standing for `chunk_len`": of
+-- the read-out's own bank and mode
+abbrev pub EveryChunkWanted : Type 0
+EveryChunkWanted =
+    (r : ReadOut) (budget : ℕ) → Valid r budget → r.next < r.length →
+    wanting (rule_of r) r budget ≡ Ok (Wanted.Chunk (chunk_in r.mode r.bank r.next (r.length - r.next) budget))
 
 -- nor 13 nor 14
 pub record Acceptable (chunk : ChunkRule) (r : ReadOut) (budget : ℕ) (bytes buffer : List ℕ) : Type 0 where

@@ -67,7 +67,7 @@ pub fn chunk_len(bank: u8, offset: u16, remaining: u16, budget: u16) -> u16
 pub enum ChunkMode {
     // `chunk_len`.
     Plain,
-    // The same, but the lamp current of bank 1 in format 5, which a driver may change between two reads, comes in one.
+    // The same, but the lamp current of bank 1 in format 5 comes in one chunk: a driver may change it between two reads.
     LampCurrent,
 }
 

@@ -1,32 +1,28 @@
 -- The claim: a cut plan, read back.
 -- Assumes nothing.
-use Rattle.std.specs.Prelude.{Ok, Some, slice_get}
+use Rattle.std.specs.Prelude.{Some, slice_get}
 use mathlib.Core.Path.{◌≡◌, refl, sym, ap, ◌∙◌}
 use mathlib.Core.List.{List, ◌∷◌, ◌++◌}
 use Prim.Native.Nat.{ℕ, ◌+◌, ◌≤◌}
 use native.Mathlib.Nat.{zero-add}
 use native.Mathlib.Omega.{arith}
-use borrow.Author.Tests.{le-ltb, eq-eqb, eqb-true}
+use borrow.Author.Tests.{eq-eqb, eqb-true}
 use lib.ListN.{length, take, drop}
 use lib.Seq.{take_all, take_at, length-take-le}
 use Rattle.bank.specs.declared.layout.ChunkMode.{ChunkMode}
 use Rattle.bank.specs.declared.layout.ChunkMode.TheVariants.{Plain}
 use Rattle.bank.specs.declared.read_out.ReadOut.{ReadOut}
-use Rattle.bank.specs.Refusal.{first_of}
 use Rattle.bank.specs.Chunk.{ChunkRule, Bounded, chunk_in}
-use Rattle.bank.specs.ReadOut.{fresh, starting, laid}
+use Rattle.bank.specs.ReadOut.{laid}
 use Rattle.bank.specs.Calls.{Call, State, state_of, answer, answers_of, accepted, HoldsChunks, Behind}
 use Rattle.bank.proofs.Modes.{every_mode_bounded}
+use Rattle.bank.proofs.Reading.{every_read_out_started_exactly}
 use Rattle.bank.proofs.Calls.{answer_same, answer_behind, every_list_of_calls, every_chunk_of_bank}
 use Rattle.records.specs.Luminaire.{reads}
 use Rattle.records.specs.Plan.{stores_of}
 use Rattle.records.specs.Cut.{cut_bank}
 use Rattle.records.specs.Claim.{begin, state_after, chunks_of, fetched, standing, Done, now_of, Answered, CutPlanReadsBack, EveryModeReadsBack}
 use Rattle.records.proofs.CutFields.{cut_outside, cut_whole, one_begun, cut_begun, cut_others, length_cut}
-
-started : (n : ℕ) (mode : ChunkMode) → n ≤ 256 → starting 1 n mode ≡ Ok (fresh 1 n mode)
-unfolding first_of
-started n mode h = rw (le-ltb 256 n h, le-ltb n 0 (omega arith))
 
 same_out : {r s : ReadOut} → r.bank ≡ s.bank → r.length ≡ s.length → r.next ≡ s.next → r.mode ≡ s.mode → r ≡ s
 same_out {r} {s} a b c d =
@@ -95,7 +91,7 @@ module _ (mode : ChunkMode) (bank buffer : List ℕ) where
 pub every_mode_reads_back : EveryModeReadsBack
 every_mode_reads_back mode old p text k bank buffer calls is_old accepted is held =
     record {
-      starts = started (length bank) mode (omega (arith, is_old.few, ap length is ∙ length_cut old p text is_old accepted k));
+      starts = (every_read_out_started_exactly 1 (length bank) mode).accepted (omega (arith, is_old.few, ap length is ∙ length_cut old p text is_old accepted k));
       each_call = λ before c rest e. answered mode bank buffer calls before c rest e;
       buffer_is = buffer_holds mode bank buffer calls held;
       ends = at_end mode bank buffer calls held;

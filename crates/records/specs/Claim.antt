@@ -2,7 +2,7 @@
 -- chosen mode's chunk standing for `chunk_len`." `proofs/Claim.antt` proves it.
 -- Assumes nothing.
 use Rattle.std.specs.Prelude.{◌≡◌, true, false, cond, ℕ, ◌+◌, ◌≤◌, ◌<◌, length, take, drop, None, Ok, Option, Some, option_and_then, option_map, slice_get}
-use mathlib.Core.List.{List, [], ◌∷◌, ◌++◌, map}
+use mathlib.Core.List.{List, [], ◌∷◌, ◌++◌}
 use Rattle.bus.specs.Number.{low_bytes}
 use Rattle.bank.specs.declared.read_out.ReadOut.{ReadOut}
 use Rattle.bank.specs.declared.luminaire_write.NumberRule.{NumberRule}

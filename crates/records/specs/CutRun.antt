@@ -53,9 +53,9 @@ module _ (mode : ChunkMode) (numbers : LuminaireNumbers) (which : Option ℕ) (t
 
 -- A run of an accepted plan is not refused, and it is the one of which the claim holds.
 pub record RunReadsBack (mode : ChunkMode) (numbers : LuminaireNumbers) (which : Option ℕ) (text old : List ℕ) (k : ℕ) (buffer : List ℕ) (calls : List Call) : Type 0 where
-  pub runs : read_back mode numbers which text old k buffer calls ≡ Ok (state_behind mode numbers which text old k buffer calls).out
+  pub runs : read_back mode numbers which text old k buffer calls ≡ Ok (state_after mode (cut_of numbers which text old k) buffer calls).out
   pub leaves_cut : bank_behind mode numbers which text old k ≡ cut_of numbers which text old k
-  pub leaves_buffer : buffer_behind mode numbers which text old k buffer calls ≡ (state_behind mode numbers which text old k buffer calls).buffer
+  pub leaves_buffer : buffer_behind mode numbers which text old k buffer calls ≡ (state_after mode (cut_of numbers which text old k) buffer calls).buffer
   -- its answers begin with those of the claim's conclusion 1: each call answers "what "The read-out" above gives" at the sum of the
   -- accepted chunks' lengths
   pub lays_answers :

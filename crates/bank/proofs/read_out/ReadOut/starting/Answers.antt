@@ -1,14 +1,11 @@
--- `bank::read_out::ReadOut::starting` meets its contract, test by test.
+-- `bank::read_out::ReadOut::starting` meets its contract, by what it tests.
 -- Assumes nothing.
-use Prim.Native.Nat.{zero-le}
-use borrow.Author.Tests.{lt-ltb, le-ltb}
-use Rattle.bank.specs.Refusal.{first_of}
+use Rattle.std.proofs.Common.{sym}
+use Rattle.bank.proofs.Reading.{every_read_out_started_exactly}
 use Rattle.bank.proofs.read_out.ReadOut.starting.Goals as goal
 
 pub returns-then-length-gt256 : goal.returns-then-length-gt256
-unfolding first_of
-returns-then-length-gt256 c = rw (lt-ltb 256 c.args.length c.if-length-gt256.true)
+returns-then-length-gt256 c = let a = c.args in sym ((every_read_out_started_exactly a.bank a.length a.mode).refused c.if-length-gt256.true)
 
 pub returns : goal.returns
-unfolding first_of
-returns c = rw (le-ltb 256 c.args.length c.if-length-gt256.false, le-ltb c.args.length 0 zero-le)
+returns c = let a = c.args in sym ((every_read_out_started_exactly a.bank a.length a.mode).accepted c.if-length-gt256.false)
