@@ -6,11 +6,13 @@ mod records;
 mod texts;
 
 use dali2rust_contracts::msg::FixedText;
+use dali2rust_domain::dali::banks::luminaire_write::{LuminaireField, LUMINAIRE_FIELDS};
+use dali2rust_domain::dali::banks::part251::TextRegion;
 use dali2rust_domain::registry::{BankReading, LuminaireValue};
 use dali2rust_registry_runtime::memory_bank_parser::asked::{
     byte, escape_into_bounded, parse_bank0_bus_unit, parse_bank0_identity, parse_bank1_luminaire, parse_bank1_profile,
     parse_energy_bank, parse_gear_diagnostics, parse_luminaire_maintenance, parse_reading, parse_scale,
-    parse_source_diagnostics, text_region, Member,
+    parse_source_diagnostics, text_region, LuminaireMember, Member,
 };
 
 use crate::function::{Function, Row};
@@ -58,9 +60,14 @@ pub const FUNCTIONS: &[&dyn Function] = &[
     .random(random_record::<207>),
     &Row::new(0x7A, "text_region", text_of_region, text_cases).random(random_text_case),
     &Row::new(0x7B, "escape_into_bounded", escaped, escape_cases).domain(every_sequence).random(random_escape),
-    &Row::new(0x7C, "parse_bank1_luminaire", |case| members(parse_bank1_luminaire, case), luminaire_cases)
-        .domain(every_number)
-        .random(random_luminaire),
+    &Row::new(
+        0x7C,
+        "parse_bank1_luminaire",
+        |(start, bytes): RecordCase| Sequence(luminaire_record(&bytes, start)),
+        luminaire_cases,
+    )
+    .domain(every_number)
+    .random(random_luminaire),
 ];
 
 fn members(parser: fn(&[u8], u16) -> Vec<Member>, (start, bytes): RecordCase) -> Sequence<Member> {
@@ -71,14 +78,42 @@ impl Put for Member {
     fn put(&self, line: &mut Line) {
         match self {
             Self::Byte(byte) => line.put(byte),
-            Self::Id(id) => line.put(id),
             Self::Number(number) => line.put(number),
             Self::Scale(scale) => line.put(scale),
             Self::Reading(reading) => line.put(reading),
             Self::Condition(flag, counter) => line.put(&(*flag, *counter)),
+        }
+    }
+}
+
+/// What the luminaire record has of a field.
+#[derive(Debug, Clone, PartialEq, Eq)]
+pub enum Shown {
+    Id(Option<u16>),
+    Value(Option<LuminaireValue>),
+    Text(Text),
+}
+
+/// The record in the order of the table of fields.
+pub fn luminaire_record(bytes: &[u8], start: u16) -> Vec<Shown> {
+    let shown = |(field, member): (&LuminaireField, LuminaireMember)| {
+        let all = || text_region::<NO_LIMIT>(bytes, start, TextRegion { offset: field.offset, len: field.len });
+        match member {
+            LuminaireMember::Id(id) => Shown::Id(id),
+            LuminaireMember::Value(value) => Shown::Value(value),
+            LuminaireMember::Text32(text) => Shown::Text(Text::of(text, all(), Limit::Of32)),
+            LuminaireMember::Text64(text) => Shown::Text(Text::of(text, all(), Limit::Of64)),
+        }
+    };
+    LUMINAIRE_FIELDS.iter().zip(parse_bank1_luminaire(bytes, start)).map(shown).collect()
+}
+
+impl Put for Shown {
+    fn put(&self, line: &mut Line) {
+        match self {
+            Self::Id(id) => line.put(id),
             Self::Value(value) => line.put(value),
-            Self::Text32(text) => line.put(&Text::of(text.as_ref(), Limit::Of32)),
-            Self::Text64(text) => line.put(&Text::of(text.as_ref(), Limit::Of64)),
+            Self::Text(text) => line.put(text),
         }
     }
 }
@@ -105,7 +140,7 @@ impl Take for LuminaireValue {
 }
 
 /// How many bytes a text may have.
-#[derive(Clone, Copy)]
+#[derive(Debug, Clone, Copy, PartialEq, Eq)]
 enum Limit {
     Of32,
     Of64,
@@ -125,15 +160,27 @@ impl Take for Limit {
     }
 }
 
-/// The bytes of a `FixedText` if there is one, and its limit.
+/// A limit that no text reaches.
+const NO_LIMIT: usize = usize::MAX;
+
+/// The bytes of a `FixedText` if there is one, whether they are all that there are without a limit, and its limit.
+#[derive(Debug, Clone, PartialEq, Eq)]
 pub struct Text {
     pub bytes: Option<Vec<u8>>,
+    whole: bool,
     limit: Limit,
 }
 
 impl Text {
-    fn of<const N: usize>(text: Option<&FixedText<N>>, limit: Limit) -> Self {
-        Self { bytes: text.map(|text| text.as_bytes().to_vec()), limit }
+    fn of<const N: usize>(text: Option<FixedText<N>>, all: Option<FixedText<NO_LIMIT>>, limit: Limit) -> Self {
+        let text = text.as_ref().map(FixedText::as_bytes);
+        let whole = text.is_some() && text == all.as_ref().map(FixedText::as_bytes);
+        Self { bytes: text.map(<[u8]>::to_vec), whole, limit }
+    }
+
+    /// Whether it has these bytes, and says that it is whole.
+    pub fn shows_whole(&self, bytes: &[u8]) -> bool {
+        self.whole && self.bytes.as_deref() == Some(bytes)
     }
 }
 
@@ -145,28 +192,30 @@ impl Put for Text {
         let bytes = self.bytes.as_deref().unwrap_or_default();
         let mut filled_up = [0u8; TEXT_BYTES];
         filled_up[..bytes.len()].copy_from_slice(bytes);
-        line.put(&(self.bytes.is_some(), self.limit, bytes.len(), filled_up));
+        line.put(&(self.bytes.is_some(), self.whole, self.limit, bytes.len(), filled_up));
     }
 }
 
 impl Take for Text {
     fn take(args: &mut Args) -> Option<Self> {
-        let (present, limit, length, filled_up): (bool, _, usize, [u8; TEXT_BYTES]) = args.take()?;
+        let (present, whole, limit, length, filled_up): (bool, _, _, usize, [u8; TEXT_BYTES]) = args.take()?;
         let bytes = filled_up.get(..length)?.to_vec();
-        Some(Self { bytes: present.then_some(bytes), limit })
+        Some(Self { bytes: present.then_some(bytes), whole, limit })
     }
 }
 
 fn text_of_region((start, region, limit, bytes): TextCase) -> Text {
+    let all = text_region::<NO_LIMIT>(&bytes, start, region);
     match limit {
-        Limit::Of32 => Text::of(text_region::<32>(&bytes, start, region).as_ref(), limit),
-        Limit::Of64 => Text::of(text_region::<64>(&bytes, start, region).as_ref(), limit),
+        Limit::Of32 => Text::of(text_region::<32>(&bytes, start, region), all, limit),
+        Limit::Of64 => Text::of(text_region::<64>(&bytes, start, region), all, limit),
     }
 }
 
 fn escaped((limit, raw): EscapeCase) -> Text {
+    let all = Some(escape_into_bounded::<NO_LIMIT>(&raw));
     match limit {
-        Limit::Of32 => Text::of(Some(&escape_into_bounded::<32>(&raw)), limit),
-        Limit::Of64 => Text::of(Some(&escape_into_bounded::<64>(&raw)), limit),
+        Limit::Of32 => Text::of(Some(escape_into_bounded::<32>(&raw)), all, limit),
+        Limit::Of64 => Text::of(Some(escape_into_bounded::<64>(&raw)), all, limit),
     }
 }

@@ -4,11 +4,10 @@ use std::io;
 
 use dali2rust_domain::dali::banks::luminaire_write::{FieldKind, LuminaireField, LUMINAIRE_FIELDS};
 use dali2rust_domain::dali::banks::part251::{LuminaireFormat, CONTENT_FORMAT_ID_OFFSET};
-use dali2rust_domain::registry::LuminaireValue;
 
 use crate::line::{Args, Put, Take};
 use crate::luminaire_write::{index_of, Wanted};
-use crate::memory_bank_parser::Text;
+use crate::memory_bank_parser::Shown;
 use crate::part251::FORMATS;
 use crate::program::{failure, request, Program};
 
@@ -54,9 +53,9 @@ fn fills_the_fields_of_each_format(ported: &mut Ported) -> io::Result<()> {
         let record = ported.parse_bank1_luminaire(&bank)?;
         for (field, shown) in LUMINAIRE_FIELDS.iter().zip(record) {
             let filled = match shown {
-                Shown::Id => continue,
-                Shown::Number(value) => value.is_some(),
-                Shown::Text(text) => text.is_some(),
+                Shown::Id(_) => continue,
+                Shown::Value(value) => value.is_some(),
+                Shown::Text(text) => text.bytes.is_some(),
             };
             let id = format.content_format_id();
             let in_format = ported.in_format(field, format)?;
@@ -78,7 +77,7 @@ fn numbers_read_back(ported: &mut Ported) -> io::Result<()> {
         assure(accepted.len() > 1, || format!("{} is tried with too few values", field.name))?;
         for value in accepted {
             let shown = ported.shown_after(field, &Wanted::number(field, value))?;
-            let reads_back = matches!(shown, Shown::Number(Some(shown)) if shown.value == Some(value));
+            let reads_back = matches!(shown, Shown::Value(Some(shown)) if shown.value == Some(value));
             assure(reads_back, || format!("{} = {value}", field.name))?;
         }
     }
@@ -93,7 +92,7 @@ fn texts_read_back(ported: &mut Ported) -> io::Result<()> {
         for text in ["x", short, &PRINTABLE_60[..len]] {
             assure(ported.accepts_text(field, text)?, || format!("{} refuses {text:?}", field.name))?;
             let shown = ported.shown_after(field, &Wanted::text(index_of(field), text.as_bytes()))?;
-            let reads_back = matches!(shown, Shown::Text(Some(shown)) if shown == text.as_bytes());
+            let reads_back = matches!(shown, Shown::Text(shown) if shown.shows_whole(text.as_bytes()));
             assure(reads_back, || format!("{} = {text:?}", field.name))?;
         }
     }
@@ -107,22 +106,15 @@ fn assure(holds: bool, what: impl FnOnce() -> String) -> io::Result<()> {
     Err(io::Error::other(what()))
 }
 
-/// What the record has of a field.
-enum Shown {
-    Id,
-    Number(Option<LuminaireValue>),
-    Text(Option<Vec<u8>>),
-}
-
 /// The record, by field.
 struct Record(Vec<Shown>);
 
 impl Take for Record {
     fn take(args: &mut Args) -> Option<Self> {
         let mut shown = |field: &LuminaireField| match field.kind {
-            FieldKind::LayoutId => args.take::<Option<u16>>().map(|_| Shown::Id),
-            FieldKind::Number { .. } => args.take().map(Shown::Number),
-            FieldKind::Text(_) => args.take().map(|text: Text| Shown::Text(text.bytes)),
+            FieldKind::LayoutId => args.take().map(Shown::Id),
+            FieldKind::Number { .. } => args.take().map(Shown::Value),
+            FieldKind::Text(_) => args.take().map(Shown::Text),
         };
         LUMINAIRE_FIELDS.iter().map(&mut shown).collect::<Option<_>>().map(Self)
     }

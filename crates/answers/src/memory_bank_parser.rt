@@ -4,7 +4,7 @@ use crate::request::{Request, Take};
 use records::{
     BankReading, FixedText, LuminaireValue, ParsedBusUnit, ParsedCondition, ParsedEnergyBank,
     ParsedGearDiagnostics, ParsedLuminaire, ParsedLuminaireMaintenance, ParsedMemoryIdentity,
-    ParsedMemoryProfile, ParsedSourceDiagnostics, memory_bank_parser,
+    ParsedMemoryProfile, ParsedSourceDiagnostics, fixed_text, memory_bank_parser,
 };
 
 // By a match, as in main.rt.
@@ -88,15 +88,17 @@ fn escape_into_bounded(request: &mut Request, out: &mut Output) {
 // An answer has so many bytes of a text, whatever its limit.
 const TEXT_LEN: usize = 64;
 
-// Whether there is a text, whether its limit is 64, its length, and its bytes, filled up with 00.
+// Whether there is a text, whether it is whole, whether its limit is 64, its length, and its bytes, filled up with 00.
 fn put_text<const N: usize>(shown: Option<FixedText<N>>, out: &mut Output) {
     out.put(shown.is_some());
+    out.put(fixed_text::is_whole(&shown));
     out.put(N == TEXT_LEN);
     let text = shown.unwrap_or(FixedText {
         len: 0,
+        whole: false,
         bytes: [0; N],
     });
-    out.put(text.len);
+    out.put(text.len as usize);
     out.put(text.bytes);
     for _ in N..TEXT_LEN {
         out.put(0u8);

@@ -1,7 +1,8 @@
 -- The claim: a cut plan, read back.
 -- Assumes nothing.
-use Rattle.std.specs.Prelude.{Some, slice_get}
+use Rattle.std.specs.Prelude.{None, Some, option_map, slice_get}
 use mathlib.Core.Path.{◌≡◌, refl, sym, ap, ◌∙◌}
+use mathlib.Core.Bool.{Bool, true, false, cond, true≢false}
 use mathlib.Core.List.{List, ◌∷◌, ◌++◌}
 use Prim.Native.Nat.{ℕ, ◌+◌, ◌≤◌}
 use native.Mathlib.Nat.{zero-add}
@@ -9,6 +10,10 @@ use native.Mathlib.Omega.{arith}
 use borrow.Author.Tests.{eq-eqb, eqb-true}
 use lib.ListN.{length, take, drop}
 use lib.Seq.{take_all, take_at, length-take-le}
+use Rattle.bank.specs.declared.luminaire_write.LuminaireTextField.{LuminaireTextField}
+use Rattle.bank.specs.declared.luminaire_write.FieldKind.TheVariants.{Text}
+use Rattle.bank.specs.declared.luminaire_write.LuminaireField.{LuminaireField}
+use Rattle.bank.specs.Fields.{luminaire_fields}
 use Rattle.bank.specs.declared.layout.ChunkMode.{ChunkMode}
 use Rattle.bank.specs.declared.layout.ChunkMode.TheVariants.{Plain}
 use Rattle.bank.specs.declared.read_out.ReadOut.{ReadOut}
@@ -18,10 +23,14 @@ use Rattle.bank.specs.Calls.{Call, State, state_of, answer, answers_of, accepted
 use Rattle.bank.proofs.Modes.{every_mode_bounded}
 use Rattle.bank.proofs.Reading.{every_read_out_started_exactly}
 use Rattle.bank.proofs.Calls.{answer_same, answer_behind, every_list_of_calls, every_chunk_of_bank}
-use Rattle.records.specs.Luminaire.{reads}
+use Rattle.records.specs.declared.luminaire_write.Plan.{Plan}
+use Rattle.records.specs.Places.{is_there}
+use Rattle.records.specs.Text.{as_text}
+use Rattle.records.specs.Luminaire.{a_text, limit_for, reads, is_whole_text}
+use Rattle.records.specs.Writes.{is_for}
 use Rattle.records.specs.Plan.{stores_of}
 use Rattle.records.specs.Cut.{cut_bank}
-use Rattle.records.specs.Claim.{begin, state_after, chunks_of, fetched, standing, Done, now_of, Answered, CutPlanReadsBack, EveryModeReadsBack}
+use Rattle.records.specs.Claim.{begin, state_after, chunks_of, fetched, standing, Done, now_of, wanted, begun, Answered, CutPlanReadsBack, EveryModeReadsBack, EveryPlannedTextWhole}
 use Rattle.records.proofs.CutFields.{cut_outside, cut_whole, one_begun, cut_begun, cut_others, length_cut}
 
 same_out : {r s : ReadOut} → r.bank ≡ s.bank → r.length ≡ s.length → r.next ≡ s.next → r.mode ≡ s.mode → r ≡ s
@@ -107,3 +116,25 @@ every_mode_reads_back mode old p text k bank buffer calls is_old accepted is hel
 
 pub cut_plan_reads_back : CutPlanReadsBack
 cut_plan_reads_back = every_mode_reads_back Plain
+
+-- ---- what is wanted of a text, and one that is begun, is whole
+
+module _ (p : Plan) (text : List ℕ) (i : ℕ) {f : LuminaireField} {t : LuminaireTextField} (e : slice_get luminaire_fields i ≡ Some f) (kind : f.kind ≡ Text t) where
+  wanted_whole : is_there (wanted p text i) ≡ true → option_map is_whole_text (wanted p text i) ≡ Some true
+  wanted_whole h = rw (e, kind) (by (is_for p.text_field i) (rw (e, kind) at h))
+    where
+      by : (w : Bool) → is_there (cond w (Some (a_text (as_text (limit_for t) text))) None) ≡ true
+          → option_map is_whole_text (cond w (Some (a_text (as_text (limit_for t) text))) None) ≡ Some true
+      by true h = refl
+      by false h = absurd (true≢false (sym h))
+
+  begun_whole : (old : List ℕ) (new : ℕ) → option_map is_whole_text (begun p text old new i) ≡ Some true
+  begun_whole old new = rw (e, kind) refl
+
+pub every_planned_text_whole : EveryPlannedTextWhole
+every_planned_text_whole mode old p text k bank buffer calls is_old accepted is held done i f t e kind =
+    let back = every_mode_reads_back mode old p text k bank buffer calls is_old accepted is held in
+    record {
+      made = λ m. ap (option_map is_whole_text) (back.whole done i m) ∙ wanted_whole p text i e kind m.is_planned;
+      begun_too = λ m. ap (option_map is_whole_text) (back.in_between done i m) ∙ begun_whole p text i e kind old _;
+    }

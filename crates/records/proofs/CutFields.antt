@@ -3,7 +3,7 @@
 use Rattle.std.specs.Prelude.{None, Option, Some, option_map, slice_get}
 use mathlib.Core.Path.{◌≡◌, refl, sym, ap, ◌∙◌, subst}
 use mathlib.Core.Logic.{◌≢◌}
-use mathlib.Core.Bool.{Bool, true, false, cond, ◌&&◌, true≢false}
+use mathlib.Core.Bool.{true, false, cond, true≢false}
 use mathlib.Core.List.{List, [], ◌∷◌, ◌++◌, append-nil, append_assoc}
 use Prim.Native.Nat.{ℕ, ◌+◌, ◌-◌, ◌*◌, ◌^◌, ◌≤◌, ◌<◌}
 use native.Mathlib.Nat.{sub-zero, not-suc-le-zero, mod-eq_of_lt}
@@ -26,7 +26,7 @@ use Rattle.bank.specs.declared.luminaire_write.LuminaireField.{LuminaireField}
 use Rattle.bank.specs.declared.luminaire_write.Bank1Layout.{Bank1Layout}
 use Rattle.bank.specs.Refusal.{first_of}
 use Rattle.bank.specs.Rules.{shows}
-use Rattle.bank.specs.Fields.{luminaire_fields, field_end, is_text_kind, fits, shown_by, accepts_number, printable, id_in}
+use Rattle.bank.specs.Fields.{luminaire_fields, field_end, is_text_kind, fits, shown_by, accepts_number, id_in}
 use Rattle.bank.specs.Writable.{format_in}
 use Rattle.records.specs.declared.luminaire_write.Plan.{Plan}
 use Rattle.records.specs.declared.fixed_text.FixedText.{FixedText}
@@ -38,24 +38,14 @@ use Rattle.records.specs.Plan.{plan_checks, stores_of}
 use Rattle.records.specs.Cut.{stored, cut_bank, stores_for, before, taken_in, EveryFieldHasItsShare}
 use Rattle.records.specs.Claim.{OldBank, Accepted, wanted_of, wanted, begun_of, begun, AllMade, Begun, EveryWantedNumberShown}
 use Rattle.records.proofs.Texts.{printable_reads_as_itself, zero_reads_empty}
+use Rattle.records.proofs.Whole.{accepted_fits}
 use Rattle.records.proofs.Gathering.{each_gather, each_map}
-use Rattle.records.proofs.Table.{entry_passes, by_field, table_rises}
+use Rattle.records.proofs.Table.{by_field, table_rises}
 use Rattle.records.proofs.Stages.{stores_of_write, stores_of_none, single_count, cut_text, short_text}
 use Rattle.records.proofs.Accepted.{in_format_lem, ends_by_lem, accepted_number, accepted_text}
 use Rattle.records.proofs.Plans.{passed_plan}
 use Rattle.records.proofs.Order.{staged, in_field}
 use Rattle.records.proofs.Cutting.{take_again, part, length_part, length_stored, each_take, stored_elsewhere, bytes_made, leading_made, begins_zero, text_made, window, share, in_turn}
-
--- ---- the table: every text fits its limit, so no text that is accepted is cut when it is shown
-
-abbrev fits_limit : FieldKind → ℕ → Bool
-fits_limit LayoutId n = true
-fits_limit (Number patch r) n = true
-fits_limit (Text t) n = leb n (limit_for t)
-
-table_fits : (i : ℕ) {f : LuminaireField} → slice_get luminaire_fields i ≡ Some f → fits_limit f.kind f.len ≡ true
-unfolding luminaire_fields
-table_fits i e = entry_passes (λ (f : LuminaireField). fits_limit f.kind f.len) luminaire_fields i refl e
 
 -- ---- a field's place in a bank, from offset 0
 
@@ -279,13 +269,10 @@ module _ (old : List ℕ) (p : Plan) (text : List ℕ) (is_old : OldBank old) (a
       text_whole : mine i f ≡ own i f → reads 0 cut i ≡ wanted p text i
       unfolding bytes
       text_whole all =
-          let few_and_plain = second_true (is_text_kind f.kind) (leb (length text) f.len && printable text) (accepted_text p text sound i e w) in
-          let few = leb-true (length text) f.len (first_true (leb (length text) f.len) (printable text) few_and_plain) in
-          let plain = second_true (leb (length text) f.len) (printable text) few_and_plain in
-          let limit : f.len ≤ limit_for t = leb-true f.len (limit_for t) (ap (λ (k : FieldKind). fits_limit k f.len) (sym kind) ∙ table_fits i e) in
-          let ends = text_behind f text (part f.offset f.len old) few (length_part f.offset f.len old may_text.inside) in
+          let fits = accepted_fits i text e kind (accepted_text p text sound i e w) in
+          let ends = text_behind f text (part f.offset f.len old) fits.few (length_part f.offset f.len old may_text.inside) in
           text_reading (ap (λ (ss : List Store). part f.offset f.len (stored ss old)) (all ∙ text_stores) ∙ made_whole bytes short ∙ ends.1.0)
-          ∙ ap (λ (x : Option (FixedText (limit_for t))). Some (a_text x)) (printable_reads_as_itself (limit_for t) text ends.0 plain (omega arith) ends.1.1)
+          ∙ ap (λ (x : Option (FixedText (limit_for t))). Some (a_text x)) (printable_reads_as_itself (limit_for t) text ends.0 fits.plain (omega (arith, fits.few, fits.within)) ends.1.1)
           ∙ sym text_wanted
 
       text_begun : 1 ≤ length (mine i f) → length (mine i f) < length (own i f) → reads 0 cut i ≡ begun p text old (length (mine i f)) i

@@ -18,6 +18,7 @@ pub mod Places
 pub mod Records
 pub mod Sequences
 pub mod Texts
+pub mod Whole
 pub mod Luminaire
 pub mod Window
 pub mod Configurations

@@ -6,6 +6,7 @@ use mathlib.Core.List.{List, [], ◌∷◌, ◌++◌}
 use Rattle.bus.specs.Number.{low_bytes}
 use Rattle.bank.specs.declared.read_out.ReadOut.{ReadOut}
 use Rattle.bank.specs.declared.luminaire_write.NumberRule.{NumberRule}
+use Rattle.bank.specs.declared.luminaire_write.LuminaireTextField.{LuminaireTextField}
 use Rattle.bank.specs.declared.luminaire_write.FieldKind.{FieldKind}
 use Rattle.bank.specs.declared.luminaire_write.FieldKind.TheVariants.{LayoutId, Number, Text}
 use Rattle.bank.specs.declared.luminaire_write.LuminaireField.{LuminaireField}
@@ -19,7 +20,7 @@ use Rattle.bank.specs.Calls.{Call, State, state_of, answer, answers_of, after, a
 use Rattle.records.specs.declared.luminaire_write.Plan.{Plan}
 use Rattle.records.specs.Places.{is_there}
 use Rattle.records.specs.Text.{as_text}
-use Rattle.records.specs.Luminaire.{Reading, a_number, a_text, limit_for, number_read, reads}
+use Rattle.records.specs.Luminaire.{Reading, a_number, a_text, limit_for, number_read, reads, is_whole_text}
 use Rattle.records.specs.Writes.{number_for, is_for}
 use Rattle.records.specs.Plan.{stores_of, planned}
 use Rattle.records.specs.Cut.{cut_bank, stores_for, taken_in}
@@ -175,3 +176,18 @@ EveryWantedNumberShown =
     (i : ℕ) (f : LuminaireField) (patch : ℕ) (r : NumberRule) (value : ℕ) →
     slice_get luminaire_fields i ≡ Some f → f.kind ≡ Number patch r → number_for p.numbers patch ≡ Some value →
     wanted p text i ≡ Some (a_number (Some (record { raw = value; value = Some value; part209_implemented = false })))
+
+-- a text field of a plan, in the bank that was read
+pub record ReadsWhole (p : Plan) (text : List ℕ) (k i : ℕ) (now : Option Reading) : Type 0 where
+  pub made : AllMade p text k i → option_map is_whole_text now ≡ Some true
+  -- nothing stands before its 00
+  pub begun_too : Begun p text k i → option_map is_whole_text now ≡ Some true
+
+-- 02, F-8: "yes for every text that a plan accepts". Once the read-out of a cut plan is done, a text whose stores were all made reads
+-- whole, and so does one that is begun.
+abbrev pub EveryPlannedTextWhole : Type 0
+EveryPlannedTextWhole =
+    (mode : ChunkMode) (old : List ℕ) (p : Plan) (text : List ℕ) (k : ℕ) (bank buffer : List ℕ) (calls : List Call) →
+    OldBank old → Accepted old p text → bank ≡ cut_bank (stores_of p text) k old → HoldsChunks (chunk_in mode) bank (begin mode bank buffer) calls →
+    Done mode bank buffer calls → (i : ℕ) (f : LuminaireField) (t : LuminaireTextField) →
+    slice_get luminaire_fields i ≡ Some f → f.kind ≡ Text t → ReadsWhole p text k i (reads 0 (now_of mode bank buffer calls) i)

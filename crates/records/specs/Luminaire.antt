@@ -1,6 +1,6 @@
--- 01, "The records": the luminaire record, which is what the 18 fields of bank 1 read as.
+-- 01, "The records": the luminaire record, which is what the 18 fields of bank 1 read as; 02, F-8: which of its texts are whole.
 -- Assumes nothing.
-use Rattle.std.specs.Prelude.{◌≡◌, Bool, false, cond, ◌&&◌, ◌||◌, List, [], ◌∷◌, ℕ, None, Option, Some, option_and_then, option_map, slice_get}
+use Rattle.std.specs.Prelude.{◌≡◌, Bool, true, false, cond, ◌&&◌, ◌||◌, List, [], ◌∷◌, ◌++◌, ℕ, None, Option, Some, option_and_then, option_map, slice_get}
 use Rattle.bus.specs.declared.part251.LuminaireFormat.{LuminaireFormat}
 use Rattle.bus.specs.Number.{number}
 use Rattle.bus.specs.Part251.{from_format}
@@ -14,13 +14,13 @@ use Rattle.bank.specs.declared.luminaire_write.LuminaireField.{LuminaireField}
 use Rattle.bank.specs.declared.part251.CctReading.TheVariants.{Part209Implemented}
 use Rattle.bank.specs.Rules.{shows}
 use Rattle.bank.specs.Readings.{cct_says}
-use Rattle.bank.specs.Fields.{luminaire_fields, place_of}
+use Rattle.bank.specs.Fields.{luminaire_fields, place_of, accepts_text}
 use Rattle.bank.specs.Writable.{read_only, format_in}
 use Rattle.records.specs.declared.attributes.LuminaireValue.{LuminaireValue}
 use Rattle.records.specs.declared.fixed_text.FixedText.{FixedText}
 use Rattle.records.specs.declared.memory_bank_parser.ParsedLuminaire.{ParsedLuminaire}
 use Rattle.records.specs.Places.{field_at, is_there}
-use Rattle.records.specs.Text.{text_in}
+use Rattle.records.specs.Text.{until_zero, text_in, is_whole, SaysWhole}
 
 -- "64 bytes (identification) or 32 (others)"
 abbrev pub limit_for : LuminaireTextField → ℕ
@@ -181,3 +181,33 @@ EveryFieldShownExactly =
     (start : ℕ) (bytes : List ℕ) (f : LuminaireField) →
     is_present (read_as start bytes f)
     ≡ ((read_only f.kind || in_format f (format_at start bytes)) && is_there (field_at start bytes f.offset f.len))
+
+-- what the record has of a text that is wholly present, in a format that has its field
+pub record TextSaysWhole (start : ℕ) (bytes : List ℕ) (f : LuminaireField) (t : LuminaireTextField) (region : List ℕ) : Type 0 where
+  pub text : Option (FixedText (limit_for t))
+  pub is : read_as start bytes f ≡ a_text text
+  pub says : SaysWhole (limit_for t) (until_zero region) text
+
+-- 02, F-8: "Each text in the luminaire record carries this yes or no": that of the bytes before its 00.
+abbrev pub EveryTextSaysWhole : Type 0
+EveryTextSaysWhole =
+    (start : ℕ) (bytes : List ℕ) (f : LuminaireField) (t : LuminaireTextField) (region : List ℕ) →
+    f.kind ≡ Text t → in_format f (format_at start bytes) ≡ true → field_at start bytes f.offset f.len ≡ Some region →
+    TextSaysWhole start bytes f t region
+
+-- whether a reading is a text that is whole
+abbrev pub is_whole_text : Reading → Bool
+is_whole_text (an_id id) = false
+is_whole_text (a_number n) = false
+is_whole_text (a_text t) = is_whole t
+
+-- "no for an absent one"
+abbrev pub AbsentNeverWhole : Type 0
+AbsentNeverWhole = (r : Reading) → is_present r ≡ false → is_whole_text r ≡ false
+
+-- "yes for every text that a plan accepts": whatever stands behind its end, in its field
+abbrev pub AcceptedTextWhole : Type 0
+AcceptedTextWhole =
+    (i : ℕ) (f : LuminaireField) (t : LuminaireTextField) (text behind : List ℕ) →
+    slice_get luminaire_fields i ≡ Some f → f.kind ≡ Text t → accepts_text f text ≡ true → until_zero behind ≡ [] →
+    is_whole (text_in (limit_for t) (Some (text ++ behind))) ≡ true

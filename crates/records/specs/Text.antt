@@ -1,6 +1,7 @@
--- 01, "The records", the paragraph "Text ends at the first 00."
+-- 01, "The records", the paragraph "Text ends at the first 00."; 02, F-8.
 -- Assumes nothing.
-use Rattle.std.specs.Prelude.{◌≡◌, Bool, true, cond, List, [], ◌∷◌, ◌++◌, ℕ, zero, suc, ◌+◌, ◌-◌, ◌/◌, ◌%◌, ◌≤◌, eqb, leb, ltb, length, take, replicate, None, Option, Some, option_map, unwrap_or}
+use Rattle.std.specs.Prelude.{◌≡◌, Bool, true, false, cond, List, [], ◌∷◌, ◌++◌, ℕ, zero, suc, ◌+◌, ◌-◌, ◌/◌, ◌%◌, ◌≤◌, ◌<◌, min, eqb, leb, ltb, length, take, not, replicate, None, Option, Some, option_map, slice_get, unwrap_or}
+use Rattle.std.specs.List.{concat, list_all}
 use Rattle.bus.specs.declared.part251.TextRegion.{TextRegion}
 use Rattle.bus.specs.Value.{bytes_at, laid_into}
 use Rattle.bank.specs.Fields.{printable}
@@ -52,17 +53,30 @@ fitting room (p ∷ ps) = cond (leb (length p) room) (p ++ fitting (room - lengt
 abbrev pub escaped : ℕ → List ℕ → List ℕ
 escaped limit bytes = fitting limit (pieces bytes)
 
--- `FixedText<N>`: as many bytes as the limit says, which begin with the text; the others are 0
-abbrev pub fixed : (limit : ℕ) → List ℕ → FixedText limit
-fixed limit text = record { len = length text; bytes = laid_into text (replicate limit 0) }
+-- "whether everything before the 00 was copied" (02, F-8): all pieces of the text fit the limit
+abbrev pub copied_whole : ℕ → List ℕ → Bool
+copied_whole limit bytes = leb (length (concat (pieces bytes))) limit
 
--- a text that is there
+-- `FixedText<N>`: as many bytes as the limit says, which begin with the text; the others are 0
+abbrev pub fixed : (limit : ℕ) → Bool → List ℕ → FixedText limit
+fixed limit whole text = record { len = length text; whole = whole; bytes = laid_into text (replicate limit 0) }
+
+-- a text that is there, whole
 abbrev pub as_text : (limit : ℕ) → List ℕ → Option (FixedText limit)
-as_text limit text = Some (fixed limit text)
+as_text limit text = Some (fixed limit true text)
+
+-- how many bytes a text may have within a limit: no more than its length, which has two bytes, can say
+abbrev pub room_in : ℕ → ℕ
+room_in limit = min limit 65535
 
 -- a text as it is shown within its limit
 abbrev pub shown_text : (limit : ℕ) → List ℕ → FixedText limit
-shown_text limit bytes = fixed limit (escaped limit bytes)
+shown_text limit bytes = fixed limit (copied_whole (room_in limit) bytes) (escaped (room_in limit) bytes)
+
+-- "Each text .. carries this yes or no: .. no for an absent one" (02, F-8)
+abbrev pub is_whole : {limit : ℕ} → Option (FixedText limit) → Bool
+is_whole None = false
+is_whole (Some text) = text.whole
 
 abbrev before_zero : Option (List ℕ) → List ℕ
 before_zero None = []
@@ -88,13 +102,77 @@ text_region start bytes t limit = text_in limit (field_at start bytes t.offset t
 abbrev pub WithinLimit : Type 0
 WithinLimit = (limit : ℕ) (bytes : List ℕ) → length (escaped limit bytes) ≤ limit
 
--- A text of bytes 20 to 7E hex within the limit reads as itself, with a 00 behind it or with nothing.
+-- No limit that a length can say leaves less room than it says.
+abbrev pub EveryLimitHasRoom : Type 0
+EveryLimitHasRoom = (limit : ℕ) → limit ≤ 65535 → room_in limit ≡ limit
+
+-- "Text ends at the first 00": at one, or where the bytes end, and no 00 stands before
+pub record EndsAtZero (bytes : List ℕ) : Type 0 where
+  pub behind : List ℕ
+  pub parts : bytes ≡ until_zero bytes ++ behind
+  pub at_zero : (b : ℕ) → slice_get behind 0 ≡ Some b → b ≡ 0
+  pub none_before : list_all (λ b. not (eqb b 0)) (until_zero bytes) ≡ true
+
+abbrev pub EveryTextEndsAtZero : Type 0
+EveryTextEndsAtZero = (bytes : List ℕ) → EndsAtZero bytes
+
+-- A text of bytes 20 to 7E hex for which there is room reads as itself, with a 00 behind it or with nothing.
 abbrev pub PrintableReadsAsItself : Type 0
 PrintableReadsAsItself =
     (limit : ℕ) (text behind : List ℕ) →
-    printable text ≡ true → length text ≤ limit → until_zero behind ≡ [] →
+    printable text ≡ true → length text ≤ room_in limit → until_zero behind ≡ [] →
     text_in limit (Some (text ++ behind)) ≡ as_text limit text
 
 -- A text whose first byte is 00 reads empty.
 abbrev pub ZeroReadsEmpty : Type 0
 ZeroReadsEmpty = (limit : ℕ) (behind : List ℕ) → text_in limit (Some (0 ∷ behind)) ≡ as_text limit []
+
+-- ---- what is shown of a text, and whether that is all
+
+-- what a piece is: a well-formed sequence that is copied, or the escape of another byte
+pub data Piece (bytes p rest : List ℕ) : Type 0 where
+  copied : sequence_len bytes ≡ Some (length p) → bytes ≡ p ++ rest → Piece bytes p rest
+  an_escape : (b : ℕ) → sequence_len bytes ≡ None → bytes ≡ b ∷ rest → p ≡ escape b → Piece bytes p rest
+
+-- each piece stands for the bytes behind those of the piece before, and none is left behind the last
+abbrev pub StandFor : List ℕ → List (List ℕ) → Type 0
+StandFor bytes [] = bytes ≡ []
+StandFor bytes (p ∷ ps) = (rest : List ℕ) × Piece bytes p rest × StandFor rest ps
+
+-- The pieces of a text stand for all its bytes, each of them once.
+abbrev pub EveryByteHasItsPiece : Type 0
+EveryByteHasItsPiece = (bytes : List ℕ) → StandFor bytes (pieces bytes)
+
+-- what is shown: the first bytes of a text, as many as its length says
+abbrev pub letters : {limit : ℕ} → FixedText limit → List ℕ
+letters text = take text.len text.bytes
+
+-- "the first that doesn't fit": of pieces of which only some are shown, the first that is left out
+pub record LeftOut (room : ℕ) (shown : List ℕ) (ps : List (List ℕ)) : Type 0 where
+  pub before : List (List ℕ)
+  pub first : List ℕ
+  pub behind : List (List ℕ)
+  pub parts : ps ≡ before ++ first ∷ behind
+  pub is : shown ≡ concat before
+  pub no_room : room < length shown + length first
+
+-- of bytes and the text that they are shown as: it says that it is whole exactly where what is shown is all their pieces, one
+-- behind the other; and where it says no, the first piece left out does not fit behind what is shown
+pub record SaysWhole (limit : ℕ) (bytes : List ℕ) (text : Option (FixedText limit)) : Type 0 where
+  pub shown : FixedText limit
+  pub is : text ≡ Some shown
+  pub yes : shown.whole ≡ true → letters shown ≡ concat (pieces bytes)
+  pub only : letters shown ≡ concat (pieces bytes) → shown.whole ≡ true
+  pub no : shown.whole ≡ false → LeftOut (room_in limit) (letters shown) (pieces bytes)
+  -- and so `is_whole` tells
+  pub told : is_whole text ≡ shown.whole
+
+-- Every text that is shown says so of its bytes.
+abbrev pub WholeExactly : Type 0
+WholeExactly = (limit : ℕ) (bytes : List ℕ) → SaysWhole limit bytes (Some (shown_text limit bytes))
+
+-- And that of a region, which is wholly present, of "everything before the 00".
+abbrev pub RegionWholeExactly : Type 0
+RegionWholeExactly =
+    (start : ℕ) (bytes : List ℕ) (t : TextRegion) (limit : ℕ) (region : List ℕ) →
+    field_at start bytes t.offset t.len ≡ Some region → SaysWhole limit (until_zero region) (text_region start bytes t limit)

@@ -6,7 +6,7 @@ ghost use Rattle.bus.specs.Value.{is_not_implemented, FitsWidth, laid_into};
 ghost use Rattle.records.specs.Places.{field_at, byte_at, number_at, reading_of, reading_at, value_read, is_scale, scale_of, scale_at};
 ghost use Rattle.records.specs.Records.{bank0_identity, bank1_profile, bank0_bus_unit, energy_bank, condition, gear_diagnostics, source_diagnostics, luminaire_maintenance};
 ghost use Rattle.records.specs.Luminaire.{says209, value_in, number_read, if_from, luminaire};
-ghost use Rattle.records.specs.Text.{escape, piece, escaped, shown_text, text_in, text_region};
+ghost use Rattle.records.specs.Text.{escape, piece, escaped, copied_whole, room_in, shown_text, text_in, text_region};
 ghost use Rattle.records.specs.Steps.{pushed_len, after_push, pushed};
 
 use crate::attributes::{BankReading, LuminaireValue};
@@ -374,22 +374,35 @@ pub fn escape_into_bounded<const N: usize>(raw: &[u8]) -> FixedText<N>
     ensures { result ≡ shown_text N raw.now }
 {
     let mut bytes = [0; N];
-    let len = escape_into(raw, &mut bytes);
-    FixedText { len, bytes }
+    let Escaped { len, whole } = escape_into(raw, &mut bytes);
+    FixedText { len, whole, bytes }
 }
 
-// Stores as much of it as fits, and answers how many bytes that are. No iterator goes by pieces of one to four bytes.
-fn escape_into(raw: &[u8], out: &mut [u8]) -> usize
-    ensures count { result ≡ length (escaped (length out.old) raw.now) }
-    ensures stored { out.new ≡ laid_into (escaped (length out.old) raw.now) out.old }
+// How many bytes were stored of a text, and whether that is all of it.
+#[derive(Clone, Copy)]
+struct Escaped {
+    len: u16,
+    whole: bool,
+}
+
+// Stores as much of a text as fits and as a length can say. No iterator goes by pieces of one to four bytes.
+fn escape_into(raw: &[u8], out: &mut [u8]) -> Escaped
+    ensures count { result.len ≡ length (escaped (room_in (length out.old)) raw.now) }
+    ensures whole { result.whole ≡ copied_whole (room_in (length out.old)) raw.now }
+    ensures stored { out.new ≡ laid_into (escaped (room_in (length out.old)) raw.now) out.old }
 {
+    let room = usize::min(out.len(), u16::MAX as usize);
     let mut len = 0;
     let mut rest = raw;
-    while let Some(pushed) = push_next(rest, &mut out[len..]) {
-        len += pushed.len;
+    while let Some(pushed) = push_next(rest, &mut out[len..room]) {
+        // In this order: with the other, plain letters take a tenth longer.
         rest = &rest[pushed.taken..];
+        len += pushed.len;
     }
-    len
+    Escaped {
+        len: len as u16,
+        whole: rest.is_empty(),
+    }
 }
 
 // How many bytes of a text were taken, and how many they became.

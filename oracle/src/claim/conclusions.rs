@@ -1,15 +1,14 @@
 //! What the claim concludes, each part computed on its own from the Rust's functions. Quoted sentences are 01's.
 
-use dali2rust_contracts::msg::FixedText;
 use dali2rust_domain::dali::banks::luminaire_write::{FieldKind, FieldWrite, LuminaireField, LUMINAIRE_FIELDS};
 use dali2rust_domain::dali::banks::part251::BANK_LUMINAIRE_INFO;
 use dali2rust_domain::registry::LuminaireValue;
-use dali2rust_registry_runtime::memory_bank_parser::asked::{parse_bank1_luminaire, Member};
 
 use super::cases::{Case, Store};
 use crate::layout::chunk_len_in;
 use crate::line::Args;
 use crate::luminaire_write::index_of;
+use crate::memory_bank_parser::{luminaire_record, Shown};
 use crate::read_out::{refused, Call, ReadOut, REFUSED};
 use crate::refusal::Refusal;
 
@@ -201,8 +200,8 @@ fn stores_in(field: &LuminaireField, stores: &[Store]) -> usize {
 
 /// "A field reads as the luminaire record gives it at start offset 0, absent included": its members in the table's
 /// order.
-fn record_of(bank: &[u8]) -> Vec<Member> {
-    parse_bank1_luminaire(bank, 0)
+fn record_of(bank: &[u8]) -> Vec<Shown> {
+    luminaire_record(bank, 0)
 }
 
 /// Every planned field whose stores were all made reads as wanted.
@@ -217,23 +216,20 @@ fn made_fields_read_as_wanted(case: &Case, back: &ReadBack) -> bool {
 
 /// "Wanted is a text's own bytes, or what the record gives for the plan's number in its field's width": every number
 /// that a plan accepts shows back.
-fn reads_as_wanted(case: &Case, share: &Share, now: &Member) -> bool {
+fn reads_as_wanted(case: &Case, share: &Share, now: &Shown) -> bool {
     let wanted = &case.plan.wanted;
     match share.write.field.kind {
         FieldKind::Number { .. } => {
             let shown = |number| LuminaireValue { raw: number, value: Some(number), part209_implemented: false };
-            *now == Member::Value(wanted.numbers.of(share.write.field).map(shown))
+            *now == Shown::Value(wanted.numbers.of(share.write.field).map(shown))
         }
-        _ => text_of(now) == Some(&wanted.text),
+        _ => shows_whole(now, &wanted.text),
     }
 }
 
-fn text_of(member: &Member) -> Option<&[u8]> {
-    match member {
-        Member::Text32(text) => text.as_ref().map(FixedText::as_bytes),
-        Member::Text64(text) => text.as_ref().map(FixedText::as_bytes),
-        _ => None,
-    }
+/// 02, F-8: "yes for every text that a plan accepts"; where one is begun, nothing stands before the 00.
+fn shows_whole(now: &Shown, bytes: &[u8]) -> bool {
+    matches!(now, Shown::Text(text) if text.shows_whole(bytes))
 }
 
 /// At most one field has stores begun and not all made. There a text reads empty, and a number as the record gives the
@@ -247,9 +243,9 @@ fn begun_field_reads(case: &Case, back: &ReadBack) -> bool {
     begun.len() <= 1 && back.bank_read().is_none_or(reads)
 }
 
-fn reads_as_begun(case: &Case, share: &Share, now: &Member) -> bool {
+fn reads_as_begun(case: &Case, share: &Share, now: &Shown) -> bool {
     let FieldKind::Number { .. } = share.write.field.kind else {
-        return text_of(now) == Some(&[]);
+        return shows_whole(now, &[]);
     };
     let mut bank = case.plan.old.clone();
     let start = usize::from(share.write.field.offset);

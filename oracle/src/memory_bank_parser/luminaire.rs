@@ -1,5 +1,6 @@
 //! Cases of the luminaire record: what bank 1 holds from a start offset on.
 
+use dali2rust_contracts::msg::LuminaireTextField;
 use dali2rust_domain::dali::banks::luminaire_write::{FieldKind, LuminaireField, LUMINAIRE_FIELDS};
 use dali2rust_domain::dali::banks::part251::CONTENT_FORMAT_ID_OFFSET;
 
@@ -19,6 +20,7 @@ pub fn luminaire_cases(source: &mut Source) -> Vec<RecordCase> {
     let mut cases = of_each_id(source);
     cases.extend(of_edges(source));
     cases.extend(with_00(source));
+    cases.extend(around_limits(source));
     cases.extend(stretches(source));
     cases
 }
@@ -56,6 +58,61 @@ fn with_00(source: &mut Source) -> Vec<RecordCase> {
         }
     }
     cases
+}
+
+/// What may cross the limit of a text: nothing, or a letter of two bytes, three or four.
+const LAST: [&str; 4] = ["", "é", "€", "😀"];
+
+/// Texts that would take a byte less than their limit, as many, and up to three more; and foreign bytes that fill the
+/// field.
+fn around_limits(source: &mut Source) -> Vec<RecordCase> {
+    let lasts = source.scale.pick(LAST.to_vec(), LAST[..2].to_vec());
+    let over = source.scale.pick(3, 1);
+    let mut cases = Vec::new();
+    for field in text_fields() {
+        cases.push((0, bank_with(&mut source.rng, field, &vec![0x80; field.len.into()])));
+        let limit = limit_of(field);
+        for shown in limit - 1..=limit + over {
+            for last in &lasts {
+                let every = texts_shown_in(shown, usize::from(field.len), last.as_bytes());
+                let telling = every[every.len().saturating_sub(2)..].to_vec();
+                for text in source.scale.pick(every, telling) {
+                    cases.push((0, bank_with(&mut source.rng, field, &text)));
+                }
+            }
+        }
+    }
+    cases
+}
+
+/// "64 bytes (identification) or 32 (others)"
+fn limit_of(field: &LuminaireField) -> usize {
+    match field.kind {
+        FieldKind::Text(LuminaireTextField::LuminaireIdentification) => 64,
+        _ => 32,
+    }
+}
+
+/// Texts of up to so many bytes that would be shown in so many, each foreign byte in four: with each count of foreign
+/// bytes, in front of plain ones and behind them, and then the last letter.
+fn texts_shown_in(shown: usize, longest: usize, last: &[u8]) -> Vec<Vec<u8>> {
+    let room = shown - last.len();
+    let parts = (0..=room / 4).map(|foreign| (vec![0x80; foreign], vec![b'A'; room - 4 * foreign]));
+    let fitting = parts.filter(|(foreign, plain)| foreign.len() + plain.len() + last.len() <= longest);
+    let both = |(foreign, plain): (Vec<u8>, Vec<u8>)| {
+        [[&foreign[..], &plain, last].concat(), [&plain[..], &foreign, last].concat()]
+    };
+    fitting.flat_map(both).collect()
+}
+
+/// A bank of format 5 with this text in the field, ended by a 00 where it is shorter.
+fn bank_with(rng: &mut Rng, field: &LuminaireField, text: &[u8]) -> Vec<u8> {
+    let mut bank = random_bank(rng, 5, WHOLE);
+    let stored = &mut bank[usize::from(field.offset)..=usize::from(field.last_offset())];
+    for (byte, letter) in stored.iter_mut().zip(text.iter().chain(&[0])) {
+        *byte = *letter;
+    }
+    bank
 }
 
 /// Banks that end anywhere and of which the first bytes may be lacking.

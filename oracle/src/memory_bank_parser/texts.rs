@@ -118,7 +118,15 @@ fn in_bank(rng: &mut Rng, (start, region, bytes): RegionCase) -> BankTextCase {
 
 pub fn text_cases(source: &mut Source) -> Vec<TextCase> {
     let in_limits = |(start, region, bytes): RegionCase| LIMITS.map(|limit| (start, region, limit, bytes.clone()));
-    region_cases(source).into_iter().flat_map(in_limits).collect()
+    let mut cases: Vec<_> = region_cases(source).into_iter().flat_map(in_limits).collect();
+    cases.extend(escape_cases(source).into_iter().map(in_region));
+    cases
+}
+
+/// The text in a region of its own length, which is given from its first byte on.
+fn in_region((limit, raw): EscapeCase) -> TextCase {
+    let region = TextRegion { len: raw.len() as u8, ..LUMINAIRE_COLOUR };
+    (region.offset.into(), region, limit, raw)
 }
 
 pub fn random_text_case(source: &mut Source) -> TextCase {
@@ -157,6 +165,7 @@ pub fn escape_cases(source: &mut Source) -> Vec<EscapeCase> {
     cases.extend(sequences().map(|sequence| (Limit::Of32, sequence.to_vec())));
     for limit in LIMITS {
         escapes_near_the_limit(source, limit, &mut cases);
+        foreign_bytes_only(source.scale, limit, &mut cases);
     }
     cases
 }
@@ -165,21 +174,34 @@ fn sequences() -> impl Iterator<Item = &'static [u8]> {
     LETTERS.into_iter().map(str::as_bytes).chain(NO_LETTERS)
 }
 
-/// Plain bytes that leave little room or none, then a sequence that may not fit, then another plain byte.
+/// Plain bytes that leave little room or none and a sequence or none, in either order, then another plain byte or none.
 fn escapes_near_the_limit(source: &mut Source, limit: Limit, cases: &mut Vec<EscapeCase>) {
     let own = match limit {
-        Limit::Of32 => 28..=33,
-        Limit::Of64 => 60..=65,
+        Limit::Of32 => 27..=33,
+        Limit::Of64 => 59..=65,
     };
-    let lengths: Vec<usize> = source.scale.pick((28..=33).chain(60..=65).collect(), own.collect());
-    let telling = vec!["é".as_bytes(), "😀".as_bytes(), &[0x80]];
-    let sequences = source.scale.pick(sequences().collect(), telling);
+    let lengths: Vec<usize> = source.scale.pick((27..=33).chain(59..=65).collect(), own.collect());
+    let telling = vec![&b""[..], "é".as_bytes(), "€".as_bytes(), "😀".as_bytes(), &[0x80]];
+    let sequences = source.scale.pick(sequences().chain([&b""[..]]).collect(), telling);
     for length in lengths {
         for sequence in &sequences {
-            let text = printable(&mut source.rng, length);
-            cases.push((limit, [&text, *sequence, b"A"].concat()));
+            for behind in [&b""[..], b"A"] {
+                let text = printable(&mut source.rng, length);
+                cases.push((limit, [&text, *sequence, behind].concat()));
+                cases.push((limit, [*sequence, &text, behind].concat()));
+            }
         }
     }
+}
+
+/// Each of them becomes four bytes: up to more than there is room for, or around that.
+fn foreign_bytes_only(scale: Scale, limit: Limit, cases: &mut Vec<EscapeCase>) {
+    let own = match limit {
+        Limit::Of32 => 7..=9,
+        Limit::Of64 => 15..=17,
+    };
+    let counts: Vec<usize> = scale.pick((1..=24).collect(), own.collect());
+    cases.extend(counts.into_iter().map(|count| (limit, vec![0xFF; count])));
 }
 
 /// Each sequence of up to two bytes; and each of three and four that starts as a letter of such may and goes on with

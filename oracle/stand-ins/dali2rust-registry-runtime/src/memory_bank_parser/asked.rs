@@ -14,12 +14,17 @@ use super::{
 #[derive(Debug, Clone, PartialEq, Eq)]
 pub enum Member {
     Byte(Option<u8>),
-    Id(Option<u16>),
     Number(Option<u64>),
     Scale(Option<i8>),
     Reading(Option<BankReading>),
     /// A flag and its counter.
     Condition(Option<BankReading>, Option<BankReading>),
+}
+
+/// A member of the luminaire record.
+#[derive(Debug, Clone, PartialEq, Eq)]
+pub enum LuminaireMember {
+    Id(Option<u16>),
     Value(Option<LuminaireValue>),
     Text32(Option<FixedText32>),
     Text64(Option<FixedText64>),
@@ -28,12 +33,6 @@ pub enum Member {
 impl From<Option<u8>> for Member {
     fn from(byte: Option<u8>) -> Self {
         Self::Byte(byte)
-    }
-}
-
-impl From<Option<u16>> for Member {
-    fn from(id: Option<u16>) -> Self {
-        Self::Id(id)
     }
 }
 
@@ -62,19 +61,25 @@ impl From<ParsedCondition> for Member {
     }
 }
 
-impl From<Option<LuminaireValue>> for Member {
+impl From<Option<u16>> for LuminaireMember {
+    fn from(id: Option<u16>) -> Self {
+        Self::Id(id)
+    }
+}
+
+impl From<Option<LuminaireValue>> for LuminaireMember {
     fn from(value: Option<LuminaireValue>) -> Self {
         Self::Value(value)
     }
 }
 
-impl From<Option<FixedText32>> for Member {
+impl From<Option<FixedText32>> for LuminaireMember {
     fn from(text: Option<FixedText32>) -> Self {
         Self::Text32(text)
     }
 }
 
-impl From<Option<FixedText64>> for Member {
+impl From<Option<FixedText64>> for LuminaireMember {
     fn from(text: Option<FixedText64>) -> Self {
         Self::Text64(text)
     }
@@ -82,8 +87,8 @@ impl From<Option<FixedText64>> for Member {
 
 /// Each parser as a function that gives every member of its record. One that is left out here does not compile.
 macro_rules! parsers {
-    ($($parser:ident: $record:ident { $($member:ident,)* })*) => {$(
-        pub fn $parser(bytes: &[u8], start_offset: u16) -> Vec<Member> {
+    ($kind:ty; $($parser:ident: $record:ident { $($member:ident,)* })*) => {$(
+        pub fn $parser(bytes: &[u8], start_offset: u16) -> Vec<$kind> {
             let $record { $($member),* } = super::$parser(bytes, start_offset);
             vec![$($member.into()),*]
         }
@@ -91,6 +96,31 @@ macro_rules! parsers {
 }
 
 parsers! {
+    LuminaireMember;
+    parse_bank1_luminaire: ParsedLuminaire {
+        content_format_id,
+        year,
+        week,
+        nominal_input_power_w,
+        power_at_minimum_w,
+        nominal_min_ac_voltage_v,
+        nominal_max_ac_voltage_v,
+        nominal_light_output_lm,
+        cri,
+        cct_kelvin,
+        light_distribution_type,
+        luminaire_colour,
+        luminaire_identification,
+        light_distribution,
+        oem_name,
+        customer_stocking_number,
+        lamp_current_ma,
+        free_use,
+    }
+}
+
+parsers! {
+    Member;
     parse_bank0_identity: ParsedMemoryIdentity {
         last_memory_bank,
         gtin,
@@ -114,26 +144,6 @@ parsers! {
     parse_bank0_bus_unit: ParsedBusUnit {
         configuration,
         implemented_parts,
-    }
-    parse_bank1_luminaire: ParsedLuminaire {
-        content_format_id,
-        year,
-        week,
-        nominal_input_power_w,
-        power_at_minimum_w,
-        nominal_min_ac_voltage_v,
-        nominal_max_ac_voltage_v,
-        nominal_light_output_lm,
-        cri,
-        cct_kelvin,
-        light_distribution_type,
-        luminaire_colour,
-        luminaire_identification,
-        light_distribution,
-        oem_name,
-        customer_stocking_number,
-        lamp_current_ma,
-        free_use,
     }
     parse_energy_bank: ParsedEnergyBank {
         bank_version,
