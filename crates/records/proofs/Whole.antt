@@ -111,7 +111,11 @@ in_region : (limit : ℕ) {o : Option (List ℕ)} {region : List ℕ} → o ≡ 
 in_region limit {region = region} e = subst (SaysWhole limit (until_zero region)) (sym (ap (text_in limit) e)) (says_whole limit (until_zero region))
 
 pub region_whole_exactly : RegionWholeExactly
-region_whole_exactly start bytes t limit region e = in_region limit e
+region_whole_exactly start bytes t limit =
+    record {
+      present = λ region e. in_region limit e;
+      lacking = λ e. ap (text_in limit) e;
+    }
 
 pub every_limit_has_room : EveryLimitHasRoom
 every_limit_has_room limit h = omega (arith, h)

@@ -171,8 +171,10 @@ pub record SaysWhole (limit : ℕ) (bytes : List ℕ) (text : Option (FixedText 
 abbrev pub WholeExactly : Type 0
 WholeExactly = (limit : ℕ) (bytes : List ℕ) → SaysWhole limit bytes (Some (shown_text limit bytes))
 
--- And that of a region, which is wholly present, of "everything before the 00".
+-- what is read of a region: of one that is wholly present "everything before the 00", and of any other nothing
+pub record RegionRead (start : ℕ) (bytes : List ℕ) (t : TextRegion) (limit : ℕ) : Type 0 where
+  pub present : (region : List ℕ) → field_at start bytes t.offset t.len ≡ Some region → SaysWhole limit (until_zero region) (text_region start bytes t limit)
+  pub lacking : field_at start bytes t.offset t.len ≡ None → text_region start bytes t limit ≡ None
+
 abbrev pub RegionWholeExactly : Type 0
-RegionWholeExactly =
-    (start : ℕ) (bytes : List ℕ) (t : TextRegion) (limit : ℕ) (region : List ℕ) →
-    field_at start bytes t.offset t.len ≡ Some region → SaysWhole limit (until_zero region) (text_region start bytes t limit)
+RegionWholeExactly = (start : ℕ) (bytes : List ℕ) (t : TextRegion) (limit : ℕ) → RegionRead start bytes t limit
