@@ -128,7 +128,7 @@ macro_rules! tuples {
     )*};
 }
 
-tuples!((A B)(A B C)(A B C D)(A B C D E)(A B C D E F G)(A B C D E F G H));
+tuples!((A B)(A B C)(A B C D)(A B C D E)(A B C D E F)(A B C D E F G)(A B C D E F G H));
 
 impl Put for () {
     fn put(&self, _: &mut Line) {}
@@ -163,6 +163,14 @@ impl Put for i64 {
 impl Put for i8 {
     fn put(&self, line: &mut Line) {
         line.put(&i64::from(*self));
+    }
+}
+
+impl Take for i8 {
+    fn take(args: &mut Args) -> Option<Self> {
+        let (negative, number): (bool, u64) = args.take()?;
+        let number = i8::try_from(number).ok()?;
+        Some(if negative { -1 - number } else { number })
     }
 }
 

@@ -3,6 +3,7 @@
 mod fields;
 mod luminaire;
 mod records;
+mod since;
 mod texts;
 
 use dali2rust_contracts::msg::FixedText;
@@ -11,17 +12,15 @@ use dali2rust_domain::dali::banks::part251::TextRegion;
 use dali2rust_domain::registry::{BankReading, LuminaireValue};
 use dali2rust_registry_runtime::memory_bank_parser::asked::{
     byte, escape_into_bounded, parse_bank0_bus_unit, parse_bank0_identity, parse_bank1_luminaire, parse_bank1_profile,
-    parse_energy_bank, parse_gear_diagnostics, parse_luminaire_maintenance, parse_reading, parse_scale,
-    parse_source_diagnostics, text_region, LuminaireMember, Member,
+    parse_scale, text_region, LuminaireMember, Member,
 };
 
 use crate::function::{Function, Row};
 use crate::line::{Args, Line, Put, Sequence, Take};
-use fields::{
-    byte_cases, random_byte, random_reading, random_scale, reading_cases, scale_cases, ByteCase, ReadingCase, ScaleCase,
-};
+use fields::{byte_cases, random_byte, random_reading, random_scale, reading_cases, scale_cases, ByteCase, ScaleCase};
 use luminaire::{every_number, luminaire_cases, random_luminaire};
-use records::{random_record, record_cases, RecordCase};
+use records::{random_record, random_record_after, record_after_cases, record_cases, RecordCase};
+use since::{reading_after, record_after};
 use texts::{escape_cases, every_sequence, random_escape, random_text_case, text_cases, EscapeCase, TextCase};
 
 pub use luminaire::random_bank;
@@ -30,13 +29,7 @@ pub use texts::{bank_text_cases, random_bank_text, BankTextCase};
 pub const FUNCTIONS: &[&dyn Function] = &[
     &Row::new(0x70, "byte", |(start, index, bytes): ByteCase| byte(&bytes, start, index), byte_cases)
         .random(random_byte),
-    &Row::new(
-        0x71,
-        "parse_reading",
-        |(start, offset, width, bytes): ReadingCase| parse_reading(&bytes, start, offset, width),
-        reading_cases,
-    )
-    .random(random_reading),
+    &Row::new(0x71, "parse_reading", reading_after, reading_cases).random(random_reading),
     &Row::new(0x72, "parse_scale", |(start, offset, bytes): ScaleCase| parse_scale(&bytes, start, offset), scale_cases)
         .random(random_scale),
     &Row::new(0x73, "parse_bank0_identity", |case| members(parse_bank0_identity, case), record_cases::<0>)
@@ -45,19 +38,10 @@ pub const FUNCTIONS: &[&dyn Function] = &[
         .random(random_record::<1>),
     &Row::new(0x75, "parse_bank0_bus_unit", |case| members(parse_bank0_bus_unit, case), record_cases::<0>)
         .random(random_record::<0>),
-    &Row::new(0x76, "parse_energy_bank", |case| members(parse_energy_bank, case), record_cases::<202>)
-        .random(random_record::<202>),
-    &Row::new(0x77, "parse_gear_diagnostics", |case| members(parse_gear_diagnostics, case), record_cases::<205>)
-        .random(random_record::<205>),
-    &Row::new(0x78, "parse_source_diagnostics", |case| members(parse_source_diagnostics, case), record_cases::<206>)
-        .random(random_record::<206>),
-    &Row::new(
-        0x79,
-        "parse_luminaire_maintenance",
-        |case| members(parse_luminaire_maintenance, case),
-        record_cases::<207>,
-    )
-    .random(random_record::<207>),
+    &Row::new(0x76, "parse_energy_bank", record_after::<202>, record_after_cases).random(random_record_after),
+    &Row::new(0x77, "parse_gear_diagnostics", record_after::<205>, record_after_cases).random(random_record_after),
+    &Row::new(0x78, "parse_source_diagnostics", record_after::<206>, record_after_cases).random(random_record_after),
+    &Row::new(0x79, "parse_luminaire_maintenance", record_after::<207>, record_after_cases).random(random_record_after),
     &Row::new(0x7A, "text_region", text_of_region, text_cases).random(random_text_case),
     &Row::new(0x7B, "escape_into_bounded", escaped, escape_cases).domain(every_sequence).random(random_escape),
     &Row::new(
@@ -118,11 +102,17 @@ impl Put for Shown {
     }
 }
 
-/// No parser sets the time, and a line leaves it out.
 impl Put for BankReading {
     fn put(&self, line: &mut Line) {
-        assert!(self.tmask_since_ms.is_none());
-        line.put(&(self.value, self.not_implemented, self.temporarily_unavailable, self.saturated));
+        let flags = (self.not_implemented, self.temporarily_unavailable, self.saturated);
+        line.put(&(self.value, flags, self.tmask_since_ms));
+    }
+}
+
+impl Take for BankReading {
+    fn take(args: &mut Args) -> Option<Self> {
+        let (value, (not_implemented, temporarily_unavailable, saturated), tmask_since_ms) = args.take()?;
+        Some(Self { value, not_implemented, temporarily_unavailable, tmask_since_ms, saturated })
     }
 }
 

@@ -1,6 +1,10 @@
 // The functions of memory_bank_parser.rs.
 use crate::output::{Output, Put};
 use crate::request::{Request, Take};
+use records::memory_bank_parser::{
+    parse_energy_bank, parse_gear_diagnostics, parse_luminaire_maintenance,
+    parse_source_diagnostics,
+};
 use records::{
     BankReading, FixedText, LuminaireValue, ParsedBusUnit, ParsedCondition, ParsedEnergyBank,
     ParsedGearDiagnostics, ParsedLuminaire, ParsedLuminaireMaintenance, ParsedMemoryIdentity,
@@ -13,7 +17,8 @@ pub(crate) fn answer(number: u8, request: &mut Request, out: &mut Output) {
         0x70 => byte(request, out),
         0x71 => parse_reading(request, out),
         0x72 => parse_scale(request, out),
-        0x73..=0x79 | 0x7C => of_bank(number, request, out),
+        0x73..=0x75 | 0x7C => of_bank(number, request, out),
+        0x76..=0x79 => of_bank_after(number, request, out),
         0x7A => text_region(request, out),
         0x7B => escape_into_bounded(request, out),
         _ => {}
@@ -30,7 +35,11 @@ fn parse_reading(request: &mut Request, out: &mut Output) {
     let start = request.take();
     let offset = request.take();
     let width = request.take();
-    out.put(memory_bank_parser::parse_reading(request.take(), start, offset, width));
+    let now_ms = request.take();
+    let earlier: Option<BankReading> = request.take();
+    let bytes = request.take();
+    let earlier = earlier.as_ref();
+    out.put(memory_bank_parser::parse_reading(bytes, start, offset, width, now_ms, earlier));
 }
 
 fn parse_scale(request: &mut Request, out: &mut Output) {
@@ -47,11 +56,31 @@ fn of_bank(number: u8, request: &mut Request, out: &mut Output) {
         0x73 => out.put(memory_bank_parser::parse_bank0_identity(bytes, start)),
         0x74 => out.put(memory_bank_parser::parse_bank1_profile(bytes, start)),
         0x75 => out.put(memory_bank_parser::parse_bank0_bus_unit(bytes, start)),
-        0x76 => out.put(memory_bank_parser::parse_energy_bank(bytes, start)),
-        0x77 => out.put(memory_bank_parser::parse_gear_diagnostics(bytes, start)),
-        0x78 => out.put(memory_bank_parser::parse_source_diagnostics(bytes, start)),
-        0x79 => out.put(memory_bank_parser::parse_luminaire_maintenance(bytes, start)),
         _ => out.put(memory_bank_parser::parse_bank1_luminaire(bytes, start)),
+    }
+}
+
+// Those that make one of the bytes, the present time and the earlier record, by a match too.
+fn of_bank_after(number: u8, request: &mut Request, out: &mut Output) {
+    let start = request.take();
+    let now_ms = request.take();
+    match number {
+        0x76 => {
+            let earlier: Option<ParsedEnergyBank> = request.take();
+            out.put(parse_energy_bank(request.take(), start, now_ms, earlier.as_ref()));
+        }
+        0x77 => {
+            let earlier: Option<ParsedGearDiagnostics> = request.take();
+            out.put(parse_gear_diagnostics(request.take(), start, now_ms, earlier.as_ref()));
+        }
+        0x78 => {
+            let earlier: Option<ParsedSourceDiagnostics> = request.take();
+            out.put(parse_source_diagnostics(request.take(), start, now_ms, earlier.as_ref()));
+        }
+        _ => {
+            let earlier: Option<ParsedLuminaireMaintenance> = request.take();
+            out.put(parse_luminaire_maintenance(request.take(), start, now_ms, earlier.as_ref()));
+        }
     }
 }
 
@@ -105,12 +134,25 @@ fn put_text<const N: usize>(shown: Option<FixedText<N>>, out: &mut Output) {
     }
 }
 
+impl Take<'_> for BankReading {
+    fn take(request: &mut Request) -> Self {
+        BankReading {
+            value: request.take(),
+            not_implemented: request.take(),
+            temporarily_unavailable: request.take(),
+            saturated: request.take(),
+            tmask_since_ms: request.take(),
+        }
+    }
+}
+
 impl Put for BankReading {
     fn put(self, out: &mut Output) {
         out.put(self.value);
         out.put(self.not_implemented);
         out.put(self.temporarily_unavailable);
         out.put(self.saturated);
+        out.put(self.tmask_since_ms);
     }
 }
 
@@ -155,6 +197,18 @@ impl Put for ParsedBusUnit {
     }
 }
 
+impl Take<'_> for ParsedEnergyBank {
+    fn take(request: &mut Request) -> Self {
+        ParsedEnergyBank {
+            bank_version: request.take(),
+            energy_scale: request.take(),
+            energy: request.take(),
+            power_scale: request.take(),
+            power: request.take(),
+        }
+    }
+}
+
 impl Put for ParsedEnergyBank {
     fn put(self, out: &mut Output) {
         out.put(self.bank_version);
@@ -165,10 +219,40 @@ impl Put for ParsedEnergyBank {
     }
 }
 
+impl Take<'_> for ParsedCondition {
+    fn take(request: &mut Request) -> Self {
+        ParsedCondition {
+            flag: request.take(),
+            counter: request.take(),
+        }
+    }
+}
+
 impl Put for ParsedCondition {
     fn put(self, out: &mut Output) {
         out.put(self.flag);
         out.put(self.counter);
+    }
+}
+
+impl Take<'_> for ParsedGearDiagnostics {
+    fn take(request: &mut Request) -> Self {
+        ParsedGearDiagnostics {
+            bank_version: request.take(),
+            operating_time_s: request.take(),
+            start_counter: request.take(),
+            supply_voltage_decivolt: request.take(),
+            supply_frequency_hz: request.take(),
+            power_factor_centi: request.take(),
+            overall_failure: request.take(),
+            undervoltage: request.take(),
+            overvoltage: request.take(),
+            output_power_limitation: request.take(),
+            thermal_derating: request.take(),
+            thermal_shutdown: request.take(),
+            temperature_offset60: request.take(),
+            output_current_percent: request.take(),
+        }
     }
 }
 
@@ -191,6 +275,26 @@ impl Put for ParsedGearDiagnostics {
     }
 }
 
+impl Take<'_> for ParsedSourceDiagnostics {
+    fn take(request: &mut Request) -> Self {
+        ParsedSourceDiagnostics {
+            bank_version: request.take(),
+            start_counter_resettable: request.take(),
+            start_counter: request.take(),
+            on_time_resettable_s: request.take(),
+            on_time_s: request.take(),
+            voltage_decivolt: request.take(),
+            current_milliamp: request.take(),
+            overall_failure: request.take(),
+            short_circuit: request.take(),
+            open_circuit: request.take(),
+            thermal_derating: request.take(),
+            thermal_shutdown: request.take(),
+            temperature_offset60: request.take(),
+        }
+    }
+}
+
 impl Put for ParsedSourceDiagnostics {
     fn put(self, out: &mut Output) {
         out.put(self.bank_version);
@@ -206,6 +310,17 @@ impl Put for ParsedSourceDiagnostics {
         out.put(self.thermal_derating);
         out.put(self.thermal_shutdown);
         out.put(self.temperature_offset60);
+    }
+}
+
+impl Take<'_> for ParsedLuminaireMaintenance {
+    fn take(request: &mut Request) -> Self {
+        ParsedLuminaireMaintenance {
+            bank_version: request.take(),
+            rated_life_kilohours: request.take(),
+            reference_temperature_offset60: request.take(),
+            rated_starts_hundreds: request.take(),
+        }
     }
 }
 

@@ -146,6 +146,15 @@ impl Take<'_> for usize {
     }
 }
 
+// As it is put, in output.rt. A number that no `i8` is reads as 0.
+impl Take<'_> for i8 {
+    fn take(request: &mut Request) -> Self {
+        let negative = bool::take(request);
+        let n = i8::try_from(u64::take(request)).unwrap_or(0);
+        if negative { -1 - n } else { n }
+    }
+}
+
 // Its length, then as many bytes.
 impl<'a> Take<'a> for &'a [u8] {
     fn take(request: &mut Request<'a>) -> Self {

@@ -6,7 +6,7 @@ use Prim.Native.Nat.{◌≤◌}
 use lib.Dec.{T, leb, leb→le, lit≤}
 use Rattle.bus.specs.declared.ValueWidth.{ValueWidth}
 use Rattle.bus.specs.declared.ValueWidth.TheVariants.{U8, U16, U24, U32, U48, I8, I16, I32}
-use Rattle.bus.specs.Width.{bytes_of, signed, sign_bits, SignedMasks}
+use Rattle.bus.specs.Width.{bytes_of, signed, sign_bits, mask_of, SignedMasks}
 use Rattle.bus.proofs.Tests.{and_left, and_right}
 
 -- a test that holds of each width in the table holds of a width
@@ -32,6 +32,9 @@ sized w =
       some = leb→le 1 (bytes_of w) (and_left (leb 1 (bytes_of w)) (leb (bytes_of w) 6) t);
       few = leb→le (bytes_of w) 6 (and_right (leb 1 (bytes_of w)) (leb (bytes_of w) 6) t);
     }
+
+pub large_mask : (w : ValueWidth) → 0x7F ≤ mask_of w
+large_mask w = leb→le 0x7F (mask_of w) (every (λ v. leb 0x7F (mask_of v)) tt tt tt tt tt tt tt tt w)
 
 pub signed_masks : SignedMasks
 signed_masks = refl

@@ -15,6 +15,7 @@ pub mod Numbers
 pub mod Wanted
 pub mod Held
 pub mod Places
+pub mod Since
 pub mod Records
 pub mod Sequences
 pub mod Texts

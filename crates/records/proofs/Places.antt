@@ -1,26 +1,27 @@
--- Laws of a place: whether its bytes are all present, and what they are; and its theorems.
+-- Laws of a place: whether its bytes are all present, what they are and what they say; and its theorems.
 -- Assumes nothing.
 use Rattle.std.proofs.lemmas.List.{drop-take}
 use Rattle.std.specs.List.{list_all}
 use Rattle.std.proofs.lemmas.Option.{same_Some}
 use Rattle.std.specs.Prelude.{None, Some}
-use mathlib.Core.Path.{◌≡◌, refl, sym, ap, ◌∙◌}
+use mathlib.Core.Path.{◌≡◌, refl, sym, ap, subst, ◌∙◌}
 use mathlib.Core.Bool.{Bool, true, false, ◌&&◌}
 use mathlib.Core.List.{List, [], ◌∷◌}
 use Prim.Native.Nat.{ℕ, ◌+◌, ◌-◌, ◌≤◌, ◌<◌, min, zero-le}
 use native.Mathlib.Nat.{sub-zero}
 use native.Mathlib.Omega.{arith}
-use borrow.Author.Tests.{le-leb, lt-leb, leb-true}
+use borrow.Author.Tests.{le-leb, lt-leb, leb-true, eqb-true, ne_eqb}
 use lib.Dec.{eqb, leb}
 use lib.ListN.{length, take, drop, length-take, length-drop}
 use lib.Seq.{take-take, drop-drop}
-use Rattle.bus.specs.Number.{number}
-use Rattle.bus.specs.Value.{classified}
 use Rattle.bus.proofs.Tests.{by_test, no_yes}
-use Rattle.bus.proofs.Value.{no_mask_shown}
 use Rattle.bus.proofs.Lists.{no_element}
-use Rattle.records.specs.declared.attributes.BankReading.{BankReading}
-use Rattle.records.specs.Places.{field_at, is_there, all_ff, reading_of, PartReadsAsBank, NoReadingShowsMask}
+use Rattle.bus.specs.declared.ValueWidth.{ValueWidth}
+use Rattle.bus.specs.Number.{number}
+use Rattle.bus.specs.Width.{mask_of, tmask_of, max_valid_of}
+use Rattle.bus.specs.Value.{classified}
+use Rattle.bus.proofs.Width.{large_mask}
+use Rattle.records.specs.Places.{field_at, is_there, all_ff, reading_of, SaysExactly, EveryReadingSaysExactly, PartReadsAsBank}
 
 module _ (start : ℕ) (bytes : List ℕ) (o n : ℕ) where
   pub behind : start ≤ o → length bytes < o - start + n → field_at start bytes o n ≡ None
@@ -110,8 +111,29 @@ pub part_reads_as_bank : PartReadsAsBank
 part_reads_as_bank bank start m o n some_bytes =
     record { of_bank = of_bank bank start m o n some_bytes; present = present bank start m o n some_bytes }
 
-pub no_reading_shows_mask : NoReadingShowsMask
-no_reading_shows_mask start bytes o w bs r v f e s =
+-- what a number says, as the mask, as the one below it and as any other
+module _ (w : ValueWidth) (n : ℕ) where
+  apart : (k : ℕ) → n ≡ mask_of w - k → (j : ℕ) → k < j → j ≤ 2 → eqb n (mask_of w - j) ≡ false
+  apart k e j h l =
+      let large = large_mask w in
+      ne_eqb n (mask_of w - j) (λ f. omega (arith, e, f, h, l, large))
+
+  pub says : SaysExactly w n (reading_of w (classified w n))
+  says =
+      by_test (eqb n (mask_of w))
+      (λ a.
+      let is_mask : n ≡ mask_of w - 0 = eqb-true n (mask_of w) a ∙ sym (sub-zero (mask_of w)) in
+      let t : eqb n (tmask_of w) ≡ false = apart 0 is_mask 1 (omega arith) (omega arith) in
+      let v : eqb n (max_valid_of w) ≡ false = apart 0 is_mask 2 (omega arith) (omega arith) in
+      record { value = rw a; not_implemented = rw a; unavailable = rw (a, t); saturated = rw (a, v) })
+      (λ a.
+      by_test (eqb n (tmask_of w))
+      (λ b.
+      let v : eqb n (max_valid_of w) ≡ false = apart 1 (eqb-true n (tmask_of w) b) 2 (omega arith) (omega arith) in
+      record { value = rw (a, b); not_implemented = rw (a, b); unavailable = rw (a, b); saturated = rw (a, b, v) })
+      (λ b. record { value = rw (a, b); not_implemented = rw (a, b); unavailable = rw (a, b); saturated = rw (a, b) }))
+
+pub every_reading_says_exactly : EveryReadingSaysExactly
+every_reading_says_exactly start bytes o w bs r f e =
     let read : Some (reading_of w (classified w (number bs))) ≡ Some r = rw f at e in
-    let same : reading_of w (classified w (number bs)) ≡ r = same_Some _ _ read in
-    no_mask_shown w (number bs) v (sym (sym (ap (λ (q : BankReading). q.value) same)) ∙ s)
+    subst (SaysExactly w (number bs)) (same_Some _ _ read) (says w (number bs))

@@ -68,6 +68,7 @@ says value missing unavailable saturated =
       not_implemented = missing;
       temporarily_unavailable = unavailable;
       saturated = saturated;
+      tmask_since_ms = None;
     }))
 
 abbrev scale_byte : ℕ → Answer

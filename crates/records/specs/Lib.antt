@@ -1,5 +1,6 @@
 -- The definitions that the contracts cite, in the order to read them. 01 is the scope document; its words stand in quotes.
 pub mod Places
+pub mod Since
 pub mod Records
 pub mod Utf8
 pub mod Text

@@ -1,12 +1,12 @@
 -- 01, "The records": what a place of a bank says, from given bytes of which the first stands at a start offset.
 -- Assumes nothing.
-use Rattle.std.specs.Prelude.{◌≡◌, Bool, true, false, cond, ◌&&◌, List, [], ◌∷◌, ℕ, ◌+◌, ◌-◌, ◌≤◌, eqb, leb, ℤ, pos, neg_ℤ, take, drop, None, Option, Some, option_map}
+use Rattle.std.specs.Prelude.{◌≡◌, Bool, true, false, cond, ◌&&◌, ◌||◌, List, [], ◌∷◌, ℕ, ◌+◌, ◌-◌, ◌≤◌, eqb, leb, ℤ, pos, neg_ℤ, take, drop, None, Option, Some, option_map}
 use Rattle.std.specs.Int.Signed.{le_z}
 use Rattle.bus.specs.declared.ValueWidth.{ValueWidth}
 use Rattle.bus.specs.declared.BankValue.{BankValue}
 use Rattle.bus.specs.Number.{number}
-use Rattle.bus.specs.Width.{bytes_of, signed_meaning}
-use Rattle.bus.specs.Value.{classified, value_of, is_not_implemented, unavailable, saturated, bytes_at, NoMask}
+use Rattle.bus.specs.Width.{bytes_of, mask_of, tmask_of, max_valid_of, signed_meaning}
+use Rattle.bus.specs.Value.{classified, value_of, is_not_implemented, unavailable, saturated, bytes_at}
 use Rattle.records.specs.declared.attributes.BankReading.{BankReading}
 
 -- "The parsers of 000 take bytes and a start offset; a field not wholly present is absent": the bytes of a field, so many
@@ -34,7 +34,7 @@ unless_ff (Some bs) = cond (all_ff bs) None (Some (number bs))
 abbrev pub number_at : ℕ → List ℕ → ℕ → ℕ → Option ℕ
 number_at start bytes o n = unless_ff (field_at start bytes o n)
 
--- "A reading says value, not implemented, temporarily unavailable, saturated; `tmask_since_ms` is always absent and left out."
+-- "A reading says value, not implemented, temporarily unavailable, saturated": its bytes tell no time
 abbrev pub reading_of : ValueWidth → BankValue → BankReading
 reading_of w v =
     record {
@@ -42,11 +42,25 @@ reading_of w v =
       not_implemented = is_not_implemented v;
       temporarily_unavailable = unavailable v;
       saturated = saturated w v;
+      tmask_since_ms = None;
     }
 
 -- the reading at an offset and a width
 abbrev pub reading_at : ℕ → List ℕ → ℕ → ValueWidth → Option BankReading
 reading_at start bytes o w = option_map (λ bs. reading_of w (classified w (number bs))) (field_at start bytes o (bytes_of w))
+
+-- "Masks (DiiA 252)", by the number of the bytes: the mask is not implemented, "one less is temporarily unavailable, two less
+-- is a saturated reading", and all but the first two are a value.
+pub record SaysExactly (w : ValueWidth) (n : ℕ) (r : BankReading) : Type 0 where
+  pub value : r.value ≡ cond (eqb n (mask_of w) || eqb n (tmask_of w)) None (Some n)
+  pub not_implemented : r.not_implemented ≡ eqb n (mask_of w)
+  pub unavailable : r.temporarily_unavailable ≡ eqb n (tmask_of w)
+  pub saturated : r.saturated ≡ eqb n (max_valid_of w)
+
+abbrev pub EveryReadingSaysExactly : Type 0
+EveryReadingSaysExactly =
+    (start : ℕ) (bytes : List ℕ) (o : ℕ) (w : ValueWidth) (bs : List ℕ) (r : BankReading) →
+    field_at start bytes o (bytes_of w) ≡ Some bs → reading_at start bytes o w ≡ Some r → SaysExactly w (number bs) r
 
 -- the value of a reading that is there and has one
 abbrev pub value_read : Option BankReading → Option ℕ
@@ -77,10 +91,3 @@ pub record PartOf (bank : List ℕ) (start m o n : ℕ) : Type 0 where
 
 abbrev pub PartReadsAsBank : Type 0
 PartReadsAsBank = (bank : List ℕ) (start m o n : ℕ) → 1 ≤ n → PartOf bank start m o n
-
--- No reading shows a mask: the value that it has is the number of its own bytes, and neither mask of its width.
-abbrev pub NoReadingShowsMask : Type 0
-NoReadingShowsMask =
-    (start : ℕ) (bytes : List ℕ) (o : ℕ) (w : ValueWidth) (bs : List ℕ) (r : BankReading) (v : ℕ) →
-    field_at start bytes o (bytes_of w) ≡ Some bs → reading_at start bytes o w ≡ Some r → r.value ≡ Some v →
-    NoMask w (number bs) v

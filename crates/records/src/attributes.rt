@@ -7,6 +7,7 @@ pub struct BankReading {
     pub not_implemented: bool,
     pub temporarily_unavailable: bool,
     pub saturated: bool,
+    pub tmask_since_ms: Option<u64>,
 }
 
 // What a number of bank 1 says. The members are the Rust's, and 01 names each.

@@ -2,13 +2,13 @@
 
 use dali2rust_domain::dali::banks::ValueWidth;
 
+use super::since::{any_reading, reading_reads, ReadingAfterCase};
 use crate::banks::{random_raw, telling, write, WIDTHS};
 use crate::function::{Scale, Source};
 use crate::part251::bytes;
 use crate::rng::Rng;
 
 pub type ByteCase = (u16, usize, Vec<u8>);
-pub type ReadingCase = (u16, u8, ValueWidth, Vec<u8>);
 pub type ScaleCase = (u16, u8, Vec<u8>);
 
 /// Indices around the first and the last byte given; far out; and such that a part of their bits is the first byte's.
@@ -83,24 +83,28 @@ fn field_cases(source: &mut Source, width: ValueWidth, raws: &[u64]) -> Vec<Scal
     cases
 }
 
-pub fn reading_cases(source: &mut Source) -> Vec<ReadingCase> {
+pub fn reading_cases(source: &mut Source) -> Vec<ReadingAfterCase> {
     let mut cases = Vec::new();
     for width in WIDTHS {
         let own = vec![width.mask(), width.tmask(), width.max_valid()];
         let random = random_raw(&mut source.rng, width);
         let raws = source.scale.pick([telling(width), vec![0, random]].concat(), own);
-        let fields = field_cases(source, width, &raws);
-        cases.extend(fields.into_iter().map(|(start, offset, bytes)| (start, offset, width, bytes)));
+        for (start, offset, bytes) in field_cases(source, width, &raws) {
+            let now_ms = source.rng.number_of_any_size();
+            cases.push((start, offset, width, now_ms, any_reading(&mut source.rng), bytes));
+        }
+        cases.extend(reading_reads(source.scale, width));
     }
     cases
 }
 
-pub fn random_reading(source: &mut Source) -> ReadingCase {
+pub fn random_reading(source: &mut Source) -> ReadingAfterCase {
     let rng = &mut source.rng;
     let width = rng.one_of(&WIDTHS);
-    let raw = random_raw(rng, width);
+    let any = random_raw(rng, width);
+    let raw = rng.one_of(&[any, width.tmask()]);
     let (start, offset, bytes) = random_field(rng, width, raw);
-    (start, offset, width, bytes)
+    (start, offset, width, rng.number_of_any_size(), any_reading(rng), bytes)
 }
 
 pub fn scale_cases(source: &mut Source) -> Vec<ScaleCase> {

@@ -3,6 +3,7 @@
 use dali2rust_domain::dali::banks::layout::bank_field_map;
 use dali2rust_domain::dali::banks::{encode_value, ValueWidth};
 
+use super::since::{record_after, record_of, record_reads, Earlier, RecordAfterCase};
 use crate::function::Source;
 use crate::rng::Rng;
 
@@ -60,6 +61,31 @@ pub fn random_record<const BANK: u8>(source: &mut Source) -> RecordCase {
         _ => rng.below(41),
     };
     stretch(rng, BANK, content, start, length)
+}
+
+/// The same stretches, each after any record of the bank or none; and lists of reads.
+pub fn record_after_cases<const BANK: u8>(source: &mut Source) -> Vec<RecordAfterCase<BANK>> {
+    let stretches = record_cases::<BANK>(source);
+    let mut cases: Vec<_> = stretches.into_iter().map(|stretch| after(source, stretch)).collect();
+    cases.extend(record_reads(source.scale));
+    cases
+}
+
+pub fn random_record_after<const BANK: u8>(source: &mut Source) -> RecordAfterCase<BANK> {
+    let stretch = random_record::<BANK>(source);
+    after(source, stretch)
+}
+
+/// Bytes after no record, after one that the parser makes of others, or after one that no parser made.
+fn after<const BANK: u8>(source: &mut Source, (start, bytes): RecordCase) -> RecordAfterCase<BANK> {
+    let (earlier_start, earlier_bytes) = random_record::<BANK>(source);
+    let rng = &mut source.rng;
+    let earlier = match rng.below(4) {
+        0 => None,
+        1 => Some(record_after((earlier_start, rng.number_of_any_size(), None, earlier_bytes))),
+        _ => Some(Earlier::unmade(record_of(BANK, &earlier_bytes, earlier_start), rng)),
+    };
+    (start, rng.number_of_any_size(), earlier, bytes)
 }
 
 /// The bytes of such a bank from the start offset on. Behind its fields are any.
