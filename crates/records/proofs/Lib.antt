@@ -17,6 +17,7 @@ pub mod Held
 pub mod Places
 pub mod Since
 pub mod Records
+pub mod Rereads
 pub mod Sequences
 pub mod Texts
 pub mod Whole

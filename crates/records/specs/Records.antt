@@ -1,7 +1,7 @@
 -- 01, "The records": each record is a list of places, by the tables of IEC 62386-102 and of DiiA 252 and 253; 02, F-5: each
 -- reading has the time since which it has been unavailable.
 -- Assumes nothing.
-use Rattle.std.specs.Prelude.{◌≡◌, Bool, true, cond, List, [], ◌∷◌, ◌++◌, map, ℕ, ◌+◌, drop, Option, ℤ, option_and_then, option_map, unwrap_or, None, Some, is_some, is_none, slice_get}
+use Rattle.std.specs.Prelude.{◌≡◌, Bool, true, false, cond, List, [], ◌∷◌, ◌++◌, map, ℕ, suc, ◌+◌, drop, Option, ℤ, option_and_then, option_map, unwrap_or, None, Some, is_some, is_none, slice_get}
 use Rattle.std.specs.List.{list_all}
 use Rattle.bus.specs.declared.ValueWidth.{ValueWidth}
 use Rattle.bus.specs.declared.ValueWidth.TheVariants.{U8, U16, U24, U32, U48}
@@ -20,7 +20,7 @@ use Rattle.records.specs.declared.memory_bank_parser.ParsedSourceDiagnostics.{Pa
 use Rattle.records.specs.declared.memory_bank_parser.ParsedLuminaireMaintenance.{ParsedLuminaireMaintenance}
 use Rattle.records.specs.Places.{byte_at, number_at, reading_at, scale_at}
 use Rattle.records.specs.declared.attributes.BankReading.{BankReading}
-use Rattle.records.specs.Since.{dated, reading_after}
+use Rattle.records.specs.Since.{dated, reading_after, Read, last_reading}
 
 -- the kinds of place without a time, of given bytes and their start offset
 module _ (start : ℕ) (bytes : List ℕ) where
@@ -267,3 +267,26 @@ pub record AsBefore (start : ℕ) (bytes : List ℕ) (now_ms : ℕ) : Type 0 whe
 
 abbrev pub OthersAsBefore : Type 0
 OthersAsBefore = (start : ℕ) (bytes : List ℕ) (now_ms : ℕ) → AsBefore start bytes now_ms
+
+-- the record of the bank after an earlier one, and after a list of reads, each after the one before it
+abbrev pub record_after : Read → Earlier → Earlier
+record_after r (energy e) = energy (Some (energy_bank r.start r.bytes r.now_ms e))
+record_after r (gear e) = gear (Some (gear_diagnostics r.start r.bytes r.now_ms e))
+record_after r (source e) = source (Some (source_diagnostics r.start r.bytes r.now_ms e))
+record_after r (maintenance e) = maintenance (Some (luminaire_maintenance r.start r.bytes r.now_ms e))
+
+unfoldable pub last_record : Earlier → List Read → Earlier
+last_record e [] = e
+last_record e (r ∷ rs) = last_record (record_after r e) rs
+
+-- the reading at an index of the map behind the head: the version stands before them
+abbrev pub reading_in_record : Earlier → ℕ → Option BankReading
+reading_in_record e i = option_and_then reading_in (slice_get (members_before e) (suc i))
+
+-- Over any list of reads of a bank, each reading of the last record is the last reading of its place over the same reads; so
+-- `SinceFirst` is said of it too.
+abbrev pub EveryRecordReadsItsPlaces : Type 0
+EveryRecordReadsItsPlaces =
+    (e : Earlier) (rs : List Read) (i : ℕ) (f : BankField) → members_before e ≡ [] →
+    slice_get (drop 4 (fields (map_for e))) i ≡ Some f → signed f.width ≡ false →
+    reading_in_record (last_record e rs) i ≡ last_reading f.offset f.width None rs
