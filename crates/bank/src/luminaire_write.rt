@@ -195,7 +195,7 @@ impl LuminaireField {
     pub fn ends_by(self, last_offset: u8) -> bool
         ensures { result ≡ ends_by self last_offset }
     {
-        self.last_offset() <= last_offset as u16
+        self.offset as u16 + self.len as u16 <= last_offset as u16 + 1
     }
 
     pub fn accepts_number(self, value: u64, format: LuminaireFormat) -> bool
@@ -203,7 +203,7 @@ impl LuminaireField {
     {
         match self.kind {
             FieldKind::Number { rule, .. } => {
-                rule.shows_back(value, format) && fits(value, self.len)
+                fits(value, self.len) && rule.shows_back(value, format)
             }
             FieldKind::LayoutId | FieldKind::Text(_) => false,
         }

@@ -1,19 +1,19 @@
 -- Laws of the maps: which map a bank has, and that the fields of each lie one behind the other.
 -- Assumes nothing.
 use Rattle.std.specs.Prelude.{None}
-use mathlib.Core.Path.{◌≡◌, refl, sym}
+use mathlib.Core.Path.{◌≡◌, refl, sym, ap}
 use mathlib.Core.Bool.{true, false, and-false}
 use mathlib.Core.List.{List, [], ◌∷◌}
 use Prim.Native.Nat.{ℕ, ◌≤◌, ◌<◌, zero-le}
 use native.Mathlib.Nat.{le-add_right}
 use native.Mathlib.Omega.{arith}
-use lib.Dec.{T, ltb, eqb→eq}
-use borrow.Author.Tests.{le-leb, lt-leb, le-ltb, lt-ltb, ltb-true, ltb-false, ne_eqb}
+use lib.Dec.{T, eqb, ltb, eqb→eq}
+use borrow.Author.Tests.{le-leb, lt-leb, le-ltb, lt-ltb, ltb-true, ltb-false, eqb-false, ne_eqb}
 use Rattle.bus.specs.declared.layout.BankField.{BankField}
 use Rattle.bus.specs.declared.layout.BankMap.{BankMap}
 use Rattle.bus.specs.declared.layout.BankMap.TheVariants.{LuminaireInfo, Energy, GearDiagnostics, SourceDiagnostics, Maintenance, Missing}
 use Rattle.bus.specs.Width.{bytes_of}
-use Rattle.bus.specs.Maps.{map_at, map_of, fields, map_end, start_of, end_of, holds, first_with, EveryMapContiguous, EveryOffsetFound}
+use Rattle.bus.specs.Maps.{map_at, map_of, fixed_last, fields, map_end, start_of, end_of, holds, first_with, EveryMapContiguous, EveryOffsetFound}
 use Rattle.bus.proofs.Tests.{by_test}
 use Rattle.bus.proofs.Lists.{no_element, first_passes}
 use Rattle.bus.proofs.Contiguous.{runs, here, later, reaches, contiguous}
@@ -32,6 +32,17 @@ pub no_map_high : (bank : ℕ) → 207 < bank → Missing ≡ map_at bank
 unfolding map_at
 no_map_high bank k =
     simp (ne_eqb bank 1 (omega arith), le-leb 202 bank (omega arith), lt-leb bank 204 (omega arith), ne_eqb bank 205 (omega arith), ne_eqb bank 206 (omega arith), ne_eqb bank 207 (omega arith))
+
+-- no other bank than those six has a fixed length
+pub no_fixed_last : (bank : ℕ) → (202 ≤ bank → bank ≤ 207 → ⊥) → None ≡ fixed_last (map_at bank)
+unfolding map_at
+no_fixed_last bank other =
+    by_test (eqb bank 1)
+    (λ is_1. rw is_1)
+    (λ not_1.
+    by_test (ltb bank 202)
+    (λ low. ap fixed_last (no_map_low bank (eqb-false bank 1 not_1) (ltb-true bank 202 low)))
+    (λ high. ap fixed_last (no_map_high bank (omega (arith, ltb-false bank 202 high, λ (k : bank ≤ 207). other (ltb-false bank 202 high) k)))))
 
 -- the test, for each map
 pub every_map : (m : BankMap) → T (runs start_of end_of (map_end m) 0 (fields m))

@@ -1,12 +1,12 @@
 -- Laws over the width: a value has 1 to 6 bytes, the signed masks are those named, and no mask is below 7F hex.
 -- Assumes nothing.
 use mathlib.Core.Path.{refl}
-use mathlib.Core.Bool.{Bool, true, false, cond, ◌&&◌}
+use mathlib.Core.Bool.{Bool, ◌&&◌}
 use Prim.Native.Nat.{◌≤◌}
-use lib.Dec.{T, leb, leb→le, lit≤}
+use lib.Dec.{T, leb, leb→le}
 use Rattle.bus.specs.declared.ValueWidth.{ValueWidth}
 use Rattle.bus.specs.declared.ValueWidth.TheVariants.{U8, U16, U24, U32, U48, I8, I16, I32}
-use Rattle.bus.specs.Width.{bytes_of, signed, sign_bits, mask_of, SignedMasks}
+use Rattle.bus.specs.Width.{bytes_of, mask_of, SignedMasks}
 use Rattle.bus.proofs.Tests.{and_left, and_right}
 
 -- a test that holds of each width in the table holds of a width
@@ -38,10 +38,3 @@ large_mask w = leb→le 0x7F (mask_of w) (every (λ v. leb 0x7F (mask_of v)) tt 
 
 pub signed_masks : SignedMasks
 signed_masks = refl
-
-pub few_sign_bits : (w : ValueWidth) → sign_bits w ≤ 1
-few_sign_bits w = by (signed w)
-  where
-    by : (b : Bool) → cond b 1 0 ≤ 1
-    by true = lit≤ tt
-    by false = lit≤ tt

@@ -160,18 +160,6 @@ impl BankMap {
             BankMap::Missing => &[],
         }
     }
-
-    fn last_offset(self) -> Option<u8>
-        ensures { result ≡ fixed_last self }
-    {
-        match self {
-            BankMap::Energy => Some(0x0F),
-            BankMap::GearDiagnostics => Some(0x1C),
-            BankMap::SourceDiagnostics => Some(0x20),
-            BankMap::Maintenance => Some(0x07),
-            BankMap::LuminaireInfo | BankMap::Missing => None,
-        }
-    }
 }
 
 // The map of a bank, by its number. A bank without one, as most are, is told by a single range.
@@ -192,11 +180,20 @@ pub fn map_of(bank: u8) -> BankMap
     }
 }
 
-// The last offset of a bank whose length is fixed.
+// The last offset of a bank whose length is fixed. By an arm for each bank: that is one look-up, and a map in between two.
+#[tactic(auto, unfolding(crate::specs::Maps::map_at))]
 pub fn bank_last_offset(bank: u8) -> Option<u8>
     ensures { result ≡ fixed_last (map_at bank) }
 {
-    map_of(bank).last_offset()
+    match bank {
+        BANK_ACTIVE_ENERGY => Some(0x0F),
+        BANK_APPARENT_ENERGY => Some(0x0F),
+        BANK_LOADSIDE_ENERGY => Some(0x0F),
+        BANK_CONTROL_GEAR_DIAGNOSTICS => Some(0x1C),
+        BANK_LIGHT_SOURCE_DIAGNOSTICS => Some(0x20),
+        BANK_LUMINAIRE_MAINTENANCE => Some(0x07),
+        _ => None,
+    }
 }
 
 // The fields of a bank, by rising offset.

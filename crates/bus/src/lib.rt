@@ -55,11 +55,21 @@ impl ValueWidth {
         }
     }
 
-    // DiiA 252 Table 2: of a signed width one bit is the sign's.
+    // DiiA 252 Table 2: of a signed width one bit is the sign's. A number for each width, which is looked up faster than
+    // a power is computed.
     pub fn mask(self) -> u64
         ensures { result ≡ mask_of self }
     {
-        power_of_two(8 * self.bytes() - self.is_signed() as usize) - 1
+        match self {
+            ValueWidth::U8 => 0xFF,
+            ValueWidth::U16 => 0xFFFF,
+            ValueWidth::U24 => 0xFF_FFFF,
+            ValueWidth::U32 => 0xFFFF_FFFF,
+            ValueWidth::U48 => 0xFFFF_FFFF_FFFF,
+            ValueWidth::I8 => 0x7F,
+            ValueWidth::I16 => 0x7FFF,
+            ValueWidth::I32 => 0x7FFF_FFFF,
+        }
     }
 
     // DiiA 252 Table 3

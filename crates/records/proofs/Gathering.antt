@@ -2,14 +2,13 @@
 -- Assumes nothing.
 use Rattle.std.proofs.lemmas.Option.{same_Some}
 use Rattle.std.specs.Prelude.{Some, slice_get}
-use mathlib.Core.Path.{◌≡◌, refl, sym, ap, ◌∙◌, subst}
+use mathlib.Core.Path.{◌≡◌, refl, sym, ap, ◌∙◌}
 use mathlib.Core.List.{List, [], ◌∷◌, ◌++◌, append_assoc, append-nil}
 use Prim.Native.Nat.{ℕ, zero, suc, ◌+◌, ◌≤◌, ◌<◌}
 use native.Mathlib.Numerals.{add-one}
 use native.Mathlib.Omega.{arith}
 use native.Mathlib.Nat.{le_of_suc-le-suc, not-suc-le-zero, suc_inj, suc-ne-zero}
-use Rattle.std.proofs.lemmas.List.{take_more}
-use lib.ListN.{length, take, drop, get_or, length-append, take-append-drop}
+use lib.ListN.{length, take, get_or, length-append}
 use Rattle.bus.proofs.Lists.{no_element}
 use Rattle.bank.specs.declared.luminaire_write.LuminaireField.{LuminaireField}
 use Rattle.records.specs.Writes.{gather, flat, Each}
@@ -18,16 +17,6 @@ module _ {A B : Type 0} (g : A → List B) where
   pub flat_append : (xs ys : List A) → flat g (xs ++ ys) ≡ flat g xs ++ flat g ys
   flat_append [] ys = refl
   flat_append (x ∷ xs) ys = ap (λ (r : List B). g x ++ r) (flat_append xs ys) ∙ sym (append_assoc (g x) (flat g xs) (flat g ys))
-
-  -- one more element, and how much all give at least
-  module _ (xs : List A) (i : ℕ) (d : A) (h : i < length xs) where
-    pub flat_next : flat g (take (i + 1) xs) ≡ flat g (take i xs) ++ g (get_or xs i d)
-    flat_next = rw (take_more xs i d h) (flat_append (take i xs) (get_or xs i d ∷ []) ∙ rw append-nil)
-
-    pub flat_room : length (flat g (take i xs)) + length (g (get_or xs i d)) ≤ length (flat g xs)
-    flat_room =
-        let all : flat g xs ≡ flat g (take (i + 1) xs) ++ flat g (drop (i + 1) xs) = ap (flat g) (sym (take-append-drop (i + 1) xs)) ∙ flat_append (take (i + 1) xs) (drop (i + 1) xs) in
-        rw (all, flat_next) (simp length-append (omega arith))
 
 pub flat_gather : {A B : Type 0} (h : A → List B) (g : ℕ → LuminaireField → List A) (fs : List LuminaireField) → flat h (gather g fs) ≡ gather (λ i f. flat h (g i f)) fs
 flat_gather h g [] = refl
@@ -85,11 +74,6 @@ module _ {A : Type 0} (P : A → Type 0) where
   pub each_append : (xs ys : List A) → Each P xs → Each P ys → Each P (xs ++ ys)
   each_append [] ys a b = b
   each_append (x ∷ xs) ys a b = (a.0, each_append xs ys a.1 b)
-
-  pub each_at : (xs : List A) (i : ℕ) {x : A} → Each P xs → slice_get xs i ≡ Some x → P x
-  each_at [] i a e = no_element e
-  each_at (y ∷ xs) zero a e = subst P (same_Some _ _ e) a.0
-  each_at (y ∷ xs) (suc i) a e = each_at xs i a.1 e
 
   pub each_gather : (g : ℕ → LuminaireField → List A) (fs : List LuminaireField) → ((i : ℕ) (f : LuminaireField) → slice_get fs i ≡ Some f → Each P (g i f)) → Each P (gather g fs)
   each_gather g [] h = tt

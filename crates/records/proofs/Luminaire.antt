@@ -11,10 +11,11 @@ use Rattle.bus.specs.Part251.{from_format}
 use Rattle.bank.specs.declared.luminaire_write.FieldKind.{FieldKind}
 use Rattle.bank.specs.declared.luminaire_write.FieldKind.TheVariants.{LayoutId, Number, Text}
 use Rattle.bank.specs.declared.luminaire_write.LuminaireField.{LuminaireField}
+use Rattle.bus.specs.Number.{number}
 use Rattle.bank.specs.Fields.{luminaire_fields, place_of}
 use Rattle.bank.specs.Writable.{read_only}
 use Rattle.records.specs.Places.{field_at, is_there}
-use Rattle.records.specs.Luminaire.{reading, if_from, having, format_at, read_as, RecordIsItsReadings, is_present, in_format, EveryFieldShownExactly}
+use Rattle.records.specs.Luminaire.{reading, if_from, having, format_at, read_as, luminaire, RecordIsItsReadings, is_present, in_format, EveryFieldShownExactly}
 
 -- every format has what format 3 has
 pub from_first : (format : Option LuminaireFormat) → if_from V3 format ≡ format
@@ -55,3 +56,28 @@ shown f (Text t) (Some v) bytes = by (from_format f.since v) bytes
 
 pub every_field_shown_exactly : EveryFieldShownExactly
 every_field_shown_exactly start bytes f = shown f f.kind (format_at start bytes) (field_at start bytes f.offset f.len)
+
+-- without a format the record holds the id alone
+pub id_alone : (start : ℕ) (bytes : List ℕ) → format_at start bytes ≡ None →
+    record {
+      content_format_id = option_map number (field_at start bytes 0x11 2);
+      year = None;
+      week = None;
+      nominal_input_power_w = None;
+      power_at_minimum_w = None;
+      nominal_min_ac_voltage_v = None;
+      nominal_max_ac_voltage_v = None;
+      nominal_light_output_lm = None;
+      cri = None;
+      cct_kelvin = None;
+      light_distribution_type = None;
+      luminaire_colour = None;
+      luminaire_identification = None;
+      light_distribution = None;
+      oem_name = None;
+      customer_stocking_number = None;
+      lamp_current_ma = None;
+      free_use = None;
+    } ≡ luminaire start bytes
+unfolding luminaire_fields place_of
+id_alone start bytes e = rw e

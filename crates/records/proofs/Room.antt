@@ -1,6 +1,6 @@
 -- What a plan answers to slices that are long enough for the stores of any.
 -- Assumes nothing.
-use Rattle.std.specs.Prelude.{Err, None, Ok, Option, Result, Some}
+use Rattle.std.specs.Prelude.{Err, IfOk, None, Ok, Option, Result, Some}
 use mathlib.Core.Path.{◌≡◌, refl, sym, ap, ◌∙◌, subst}
 use mathlib.Core.List.{List, [], ◌∷◌, ◌++◌, append-nil, map}
 use Prim.Native.Nat.{ℕ, suc, ◌+◌, ◌≤◌, ◌<◌}
@@ -10,7 +10,7 @@ use Rattle.bus.specs.Value.{laid_into}
 use Rattle.bus.proofs.Lists.{sets_laid}
 use Rattle.bank.specs.declared.refusal.Refusal.{Refusal}
 use Rattle.bank.specs.declared.luminaire_write.LuminaireField.{LuminaireField}
-use Rattle.bank.specs.Refusal.{first_of}
+use Rattle.bank.specs.Refusal.{Check, first_of, checked}
 use Rattle.bank.specs.Fields.{luminaire_fields}
 use Rattle.bank.specs.Calls.{sum}
 use Rattle.bank.proofs.Checks.{refused_first, none_first, not_both}
@@ -44,33 +44,49 @@ stores_bound m which text =
     rw (by_field m which text)
     (subst (λ (k : ℕ). length (gather (stores_at m which text) luminaire_fields) ≤ k) most_is (gather_few (stores_at m which text) (stores_few m which text) luminaire_fields))
 
+-- the stores of the first so many fields of the table
+abbrev pub front : LuminaireNumbers → Option ℕ → List ℕ → ℕ → List Store
+front m which text i = gather (stores_at m which text) (take i luminaire_fields)
+
 -- in a loop over the table: the stores of a field behind those of the fields before
 module _ (m : LuminaireNumbers) (which : Option ℕ) (text : List ℕ) {t : List LuminaireField} (is : t ≡ luminaire_fields) (i : ℕ) (d : LuminaireField) (h : i < length t) where
   abbrev field : LuminaireField
   field = get_or t i d
 
-  module _ {laid : List Store} (before : laid ≡ gather (stores_at m which text) (take i luminaire_fields)) where
-    pub none_next : bytes_for field.kind m which text i field ≡ None → laid ≡ gather (stores_at m which text) (take (i + 1) luminaire_fields)
-    none_next b = before ∙ sym (next_field is i d h (stores_at m which text) ∙ rw (stores_of_none m which text i field b) (append-nil _))
+  pub none_next : bytes_for field.kind m which text i field ≡ None → front m which text (i + 1) ≡ front m which text i
+  none_next b = next_field is i d h (stores_at m which text) ∙ rw (stores_of_none m which text i field b) (append-nil (front m which text i))
 
-    module _ {own bytes : List ℕ} (b : bytes_for field.kind m which text i field ≡ Some bytes) (is_own : own ≡ bytes) where
-      pub own_fits : length own ≤ field.len
-      own_fits = rw is_own (bytes_fit field.kind m which text i field b)
+  module _ {own bytes : List ℕ} (b : bytes_for field.kind m which text i field ≡ Some bytes) (is_own : own ≡ bytes) where
+    pub own_fits : length own ≤ field.len
+    own_fits = rw is_own (bytes_fit field.kind m which text i field b)
 
-      pub own_room : length laid + length (write_stores (written i field own)) ≤ 256
-      own_room =
-          let few = field_room is i d h (stores_at m which text) in
-          rw (before, is_own) (omega (arith, few, ap length (stores_of_write m which text i field b), ap length (by_field m which text), stores_bound m which text))
+    pub own_next : front m which text (i + 1) ≡ front m which text i ++ write_stores (written i field own)
+    own_next = next_field is i d h (stores_at m which text) ∙ rw (is_own, stores_of_write m which text i field b)
 
-      pub own_next : {new : List Store} → new ≡ laid ++ write_stores (written i field own) → new ≡ gather (stores_at m which text) (take (i + 1) luminaire_fields)
-      own_next e = e ∙ rw (before, is_own, next_field is i d h (stores_at m which text), stores_of_write m which text i field b)
+    pub own_room : length (front m which text i) + length (write_stores (written i field own)) ≤ 203
+    own_room =
+        let few = field_room is i d h (stores_at m which text) in
+        rw is_own (omega (arith, few, ap length (stores_of_write m which text i field b), ap length (by_field m which text), stores_bound m which text))
 
 -- the first so many of a slice that they were laid into
-front_is : (xs out : List ℕ) {n : ℕ} → length xs ≡ n → n ≤ length out → take n (laid_into xs out) ≡ xs
-front_is xs out {n} e h =
+front_is : {A : Type 0} (xs out : List A) {n : ℕ} → length xs ≡ n → n ≤ length out → take n (laid_into xs out) ≡ xs
+front_is {A} xs out {n} e h =
     ap (λ (k : ℕ). take k (laid_into xs out)) (sym e)
     ∙ ap (take (length xs)) (sym (sets_laid xs out))
     ∙ front_laid xs out (omega (arith, e, h))
+
+-- what room for 256 stores begins with, where a call that lays them there answers how many there are
+module _ (m : LuminaireNumbers) (which : Option ℕ) (text : List ℕ) (cs : List Check) where
+  pub few_stores : (e : Result ℕ Refusal) → e ≡ checked cs Err (Ok (length (plan_stores m which text))) → IfOk e (λ n. n ≤ 256)
+  few_stores (Ok n) is = omega (arith, (answered cs _ (sym is)).1, stores_bound m which text)
+  few_stores (Err r) is = tt
+
+  pub first_stores : (out stores : List Store) → length out ≡ 256 → (e : Result ℕ Refusal) → e ≡ checked cs Err (Ok (length (plan_stores m which text)))
+      → IfOk e (λ _. stores ≡ laid_into (plan_stores m which text) out) → IfOk e (λ n. take n stores ≡ plan_stores m which text)
+  first_stores out stores size (Ok n) is laid =
+      let told = (answered cs _ (sym is)).1 in
+      ap (take n) laid ∙ front_is (plan_stores m which text) out (sym told) (omega (arith, told, stores_bound m which text, size))
+  first_stores out stores size (Err r) is laid = tt
 
 -- an accepted plan: how many stores there are, and where they stand
 pub record AcceptedPlan (p : Plan) (text : List ℕ) (n : ℕ) (os vs : List ℕ) : Type 0 where

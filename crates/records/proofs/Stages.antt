@@ -2,25 +2,27 @@
 -- Assumes nothing.
 use Rattle.std.specs.Prelude.{None, Option, Some}
 use mathlib.Core.Path.{◌≡◌, refl, sym, ap, ◌∙◌}
-use mathlib.Core.List.{List, [], ◌∷◌, ◌++◌, append-nil, append_assoc}
+use mathlib.Core.Bool.{Bool, true, false}
+use Rattle.std.specs.Bool.{then_some}
+use mathlib.Core.List.{List, [], ◌∷◌, ◌++◌, append-nil}
 use Prim.Native.Nat.{ℕ, suc, ◌+◌, ◌≤◌, ◌<◌}
 use native.Mathlib.Omega.{arith}
 use borrow.Author.Tests.{leb-true}
 use lib.Dec.{leb}
-use lib.ListN.{get_or, length, take, length-append, length-take, length-drop}
-use lib.Seq.{take_all, take-append-le}
+use lib.ListN.{set, length, take, drop, length-append, length-take, length-drop}
+use lib.Seq.{sets, take_all, take-append-le}
 use Rattle.bus.specs.Number.{low_bytes}
 use Rattle.bus.proofs.Tests.{by_test, second_true}
 use Rattle.bus.proofs.Number.{length_low_bytes}
-use Rattle.bus.proofs.Lists.{no_element, element_in}
+use Rattle.bus.proofs.Lists.{no_element}
 use Rattle.bank.specs.declared.luminaire_write.FieldKind.{FieldKind}
 use Rattle.bank.specs.declared.luminaire_write.FieldKind.TheVariants.{LayoutId, Number, Text}
 use Rattle.bank.specs.declared.luminaire_write.LuminaireField.{LuminaireField}
 use Rattle.bank.specs.Fields.{field_end, is_text_kind}
 use Rattle.records.specs.declared.luminaire_write.LuminaireNumbers.{LuminaireNumbers}
 use Rattle.records.specs.declared.luminaire_write.WriteStage.{WriteStage}
-use Rattle.records.specs.Writes.{Each, Store, flat, stage_stores, wanted_number, is_for, terminated, bytes_for, is_staged, stages_of, part_of, single_bytes, written, write_stores, stores_at}
-use Rattle.records.proofs.Gathering.{each_at, flat_next, flat_room}
+use Rattle.records.specs.Writes.{Each, Store, wanted_number, is_for, terminated, bytes_for, is_staged, stages_of, part_of, single_bytes, written, write_stores, stores_at}
+use Rattle.records.proofs.Laying.{sets_append}
 
 -- a text that fills its field or more is cut, a shorter one gets its 00
 pub cut_text : (f : LuminaireField) (text : List ℕ) → f.len ≤ length text → terminated f text ≡ take f.len text
@@ -48,6 +50,13 @@ bytes_fit (Text t) n which text place f {bytes} e =
     omega (arith, sym (ap length b) ∙ length-take f.len (text ++ (0 ∷ []))))
     (λ w. no_element (rw w at e))
 
+-- bytes that are set where a yes or no beside them says so
+pub set_some : {told : Bool} {set : List ℕ} {o : Option (List ℕ)} → then_some told set ≡ o → told ≡ true → o ≡ Some set
+set_some is t = sym (rw t at is)
+
+pub set_none : {told : Bool} (set : List ℕ) {o : Option (List ℕ)} → then_some told set ≡ o → told ≡ false → o ≡ None
+set_none set is t = sym (rw t at is)
+
 -- the stores of a field that has a write, and of one that has none
 module _ (n : LuminaireNumbers) (which : Option ℕ) (text : List ℕ) (place : ℕ) (f : LuminaireField) where
   pub stores_of_write : {bytes : List ℕ} → bytes_for f.kind n which text place f ≡ Some bytes → stores_at n which text place f ≡ write_stores (written place f bytes)
@@ -73,28 +82,32 @@ module _ (index : ℕ) (f : LuminaireField) (bytes : List ℕ) (fits : length by
       rw t (simp (length-take, length-drop) (omega arith)))
       (λ t. rw t (omega arith))
 
-  -- in a loop over the stages: the stores of one behind those of the stages before
-  module _ {ss : List WriteStage} (is : ss ≡ stages_of index f (length bytes)) (i : ℕ) (d : WriteStage) (h : i < length ss) {own : List ℕ} (is_own : own ≡ part_of (get_or ss i d).part bytes) where
-    pub stage_in : field_end f ≤ 256 → (get_or ss i d).offset + length own ≤ 256
-    stage_in ends =
-        let s = each_at StageIn ss i (rw is stages_in_lem) (sym (element_in ss i d h)) in
-        omega (arith, s.1, ends, ap length is_own)
+-- how many stores a write has: one for each byte, and for a staged one the 00 before them
+module _ (place : ℕ) (f : LuminaireField) (bytes : List ℕ) where
+  pub staged_count : is_staged f.kind (length bytes) ≡ true → length (write_stores (written place f bytes)) ≡ length bytes + 1
+  staged_count t =
+      let two = leb-true 2 (length bytes) (second_true (is_text_kind f.kind) (leb 2 (length bytes)) t) in
+      rw t (simp (length-append, single_count, length-take, length-drop) (omega arith))
 
-    module _ (old : List Store) {laid : List Store} (before : laid ≡ old ++ flat (stage_stores bytes) (take i ss)) where
-      pub stage_room : length old + length (write_stores (written index f bytes)) ≤ 256 → length laid + length own ≤ 256
-      stage_room room =
-          let all = ap (λ (l : List WriteStage). length (flat (stage_stores bytes) l)) is in
-          rw (before, is_own) (simp length-append (omega (arith, flat_room (stage_stores bytes) ss i d h, single_count (get_or ss i d).offset (part_of (get_or ss i d).part bytes), all, room)))
+  pub other_count : is_staged f.kind (length bytes) ≡ false → length (write_stores (written place f bytes)) ≡ length bytes
+  other_count t = rw t (simp (length-append, single_count) (omega arith))
 
-      pub stage_next : {new : List Store} → new ≡ laid ++ single_bytes (get_or ss i d).offset own → new ≡ old ++ flat (stage_stores bytes) (take (i + 1) ss)
-      stage_next e = e ∙ rw (before, is_own, flat_next (stage_stores bytes) ss i d h) (append_assoc old _ _)
+  -- laid from an index on, stage by stage
+  pub staged_laid : is_staged f.kind (length bytes) ≡ true → (l : List Store) (i : ℕ)
+      → sets l i (write_stores (written place f bytes))
+      ≡ sets (sets (sets l i (single_bytes f.offset (0 ∷ []))) (i + 1) (single_bytes (f.offset + 1) (drop 1 bytes))) (i + 1 + length (drop 1 bytes)) (single_bytes f.offset (take 1 bytes))
+  staged_laid t l i =
+      let tail = single_bytes (f.offset + 1) (drop 1 bytes) in
+      let head = single_bytes f.offset (take 1 bytes) in
+      let behind : suc i ≡ i + 1 = omega arith in
+      rw (t, append-nil head)
+      (sets_append (set l i (record { offset = f.offset; value = 0 })) (suc i) tail head ∙ rw (single_count (f.offset + 1) (drop 1 bytes), behind))
 
--- a write has at most one store more than bytes
-write_few : (place : ℕ) (f : LuminaireField) (bytes : List ℕ) → length (write_stores (written place f bytes)) ≤ length bytes + 1
-write_few place f bytes =
-    by_test (is_staged f.kind (length bytes))
-    (λ t. rw t (simp (length-append, single_count, length-take, length-drop) (omega arith)))
-    (λ t. rw t (simp (length-append, single_count) (omega arith)))
+  write_few : length (write_stores (written place f bytes)) ≤ length bytes + 1
+  write_few =
+      by_test (is_staged f.kind (length bytes))
+      (λ t. omega (arith, staged_count t))
+      (λ t. omega (arith, other_count t))
 
 pub stores_few : (n : LuminaireNumbers) (which : Option ℕ) (text : List ℕ) (place : ℕ) (f : LuminaireField) → length (stores_at n which text place f) ≤ f.len + 1
 stores_few n which text place f = go (bytes_for f.kind n which text place f) refl

@@ -43,6 +43,12 @@ impl<T: Copy, const N: usize> FixedList<T, N> {
         &self.items[..self.len]
     }
 
+    pub(crate) fn clear(&mut self)
+        ensures { self.new ≡ [] }
+    {
+        self.len = 0;
+    }
+
     // For a caller that knows that there is room.
     pub(crate) fn push(&mut self, item: T)
         requires { length self.old < N }

@@ -1,5 +1,7 @@
 // The plan of a write to bank 1: its writes, their stages and stores, and why it may be refused (luminaire_write.rs).
-ghost use Rattle.std.specs.Prelude.{◌≡◌, ◌++◌, ◌+◌, ◌≤◌, length, Err, IfSome, Ok, Some, option_map, slice_get};
+ghost use Rattle.std.specs.Prelude.{◌≡◌, ◌+◌, ◌≤◌, length, take, Err, IfOk, IfSome, Ok, Some, option_map, slice_get};
+ghost use Rattle.std.proofs.lemmas.List.Edits.{sets};
+ghost use Rattle.std.specs.Bool.{then_some};
 ghost use Rattle.std.specs.Int.Count.{ones};
 ghost use Rattle.bus.specs.Number.{low_bytes};
 ghost use Rattle.bus.specs.Value.{laid_into};
@@ -244,22 +246,21 @@ impl FieldWrite {
 type WriteBytes = FixedList<u8, 60>;
 
 // The low bytes of a number, high byte first: four at most, as a `u32` has.
-fn number_bytes(value: u32, len: u8) -> WriteBytes
+fn set_number(bytes: &mut WriteBytes, value: u32, len: u8)
     requires { len ≤ 4 }
-    ensures { result ≡ low_bytes len value }
+    ensures { bytes.new ≡ low_bytes len value }
 {
     let wide = value.to_be_bytes();
-    let mut bytes = FixedList::new(0);
+    bytes.clear();
     bytes.extend(&wide[4 - len as usize..]);
-    bytes
 }
 
 // DiiA 251 §9.2.5: a text, cut to its field, with a 00 behind it where it is shorter.
-fn text_bytes(field: LuminaireField, text: &[u8]) -> WriteBytes
+fn set_text(bytes: &mut WriteBytes, field: LuminaireField, text: &[u8])
     requires { field.len ≤ 60 }
-    ensures { result ≡ terminated field text.now }
+    ensures { bytes.new ≡ terminated field text.now }
 {
-    let mut bytes = FixedList::new(TEXT_TERMINATOR);
+    bytes.clear();
     match text.get(..field.len as usize) {
         Some(cut) => bytes.extend(cut),
         None => {
@@ -267,7 +268,6 @@ fn text_bytes(field: LuminaireField, text: &[u8]) -> WriteBytes
             bytes.push(TEXT_TERMINATOR);
         }
     }
-    bytes
 }
 
 fn is_for(text_field: Option<usize>, index: usize) -> bool
@@ -283,33 +283,44 @@ pub struct Store {
     pub value: u8,
 }
 
-// The stores of a plan: none has more than 203.
-type StoreList = FixedList<Store, 256>;
+// Room for the stores of a plan: none has more than 203.
+pub(crate) type StoreRoom = [Store; 256];
 
-// Lays the stores of a stage, one for each byte, where bank and list have room for it.
-fn lay_stage(offset: u8, bytes: &[u8], stores: &mut StoreList)
+pub(crate) const NO_STORES: StoreRoom = [Store {
+    offset: 0,
+    value: 0,
+}; 256];
+
+// Lays the stores of a stage from an index on, one for each byte, and answers the index behind them.
+fn lay_stage(offset: u8, bytes: &[u8], stores: &mut [Store], from: usize) -> usize
     requires in_bank { offset + length bytes.now ≤ 256 }
-    requires room { length stores.old + length bytes.now ≤ 256 }
-    ensures { stores.new ≡ stores.old ++ single_bytes offset bytes.now }
+    requires room { from + length bytes.now ≤ length stores.old }
+    ensures behind { result ≡ from + length bytes.now }
+    ensures laid { stores.new ≡ sets stores.old from (single_bytes offset bytes.now) }
 {
     for (i, byte) in bytes.iter().enumerate() {
-        stores.push(Store {
+        stores[from + i] = Store {
             offset: offset + i as u8,
             value: *byte,
-        });
+        };
     }
+    from + bytes.len()
 }
 
-// Lays the stores of the write to a field, stage by stage.
-fn lay_write(row: Row, bytes: &[u8], stores: &mut StoreList)
+// The same for the stores of the write to a field, in the order of its stages.
+fn lay_write(row: Row, bytes: &[u8], stores: &mut [Store], from: usize) -> usize
     requires fits { length bytes.now ≤ row.field.len }
-    requires room { length stores.old + length (write_stores (written row.index row.field bytes.now)) ≤ 256 }
-    ensures { stores.new ≡ stores.old ++ write_stores (written row.index row.field bytes.now) }
+    requires room { from + length (write_stores (written row.index row.field bytes.now)) ≤ length stores.old }
+    ensures behind { result ≡ from + length (write_stores (written row.index row.field bytes.now)) }
+    ensures laid { stores.new ≡ sets stores.old from (write_stores (written row.index row.field bytes.now)) }
 {
-    let stages = stages_of(row, bytes.len());
-    for stage in stages.as_slice() {
-        lay_stage(stage.offset, stage.bytes(bytes), stores);
+    let start = row.field.offset;
+    if !is_staged(row.field, bytes.len()) {
+        return lay_stage(start, bytes, stores, from);
     }
+    let emptied = lay_stage(start, &[TEXT_TERMINATOR], stores, from);
+    let tailed = lay_stage(start + 1, &bytes[1..], stores, emptied);
+    lay_stage(start, &bytes[..1], stores, tailed)
 }
 
 // What is to be written: the numbers, and at most one text, whose field is told by its index.
@@ -321,41 +332,26 @@ struct Content<'a> {
 }
 
 impl<'a> Content<'a> {
-    // The bytes that are to be written to a field.
-    fn bytes_for(self, row: Row) -> Option<WriteBytes>
-        ensures { result ≡ bytes_for row.field.kind self.entry.numbers self.entry.text_field self.entry.text.now row.index row.field }
+    // Sets the bytes that are to be written to a field, where there are any. They are lent, so that one list serves all
+    // fields. Inlined, since most have none, and the call would take longer than that.
+    #[inline(always)]
+    fn set_bytes(&self, row: Row, bytes: &mut WriteBytes) -> bool
+        ensures { then_some result bytes.new ≡ bytes_for row.field.kind self.now.numbers self.now.text_field self.now.text.now row.index row.field }
     {
         match row.field.kind {
             FieldKind::Number { .. } => {
-                let value = self.numbers.of_field(row.field)?;
-                Some(number_bytes(value, row.field.len))
+                let Some(value) = self.numbers.of_field(row.field) else {
+                    return false;
+                };
+                set_number(bytes, value, row.field.len);
+                true
             }
             FieldKind::Text(_) if is_for(self.text_field, row.index) => {
-                Some(text_bytes(row.field, self.text))
+                set_text(bytes, row.field, self.text);
+                true
             }
-            FieldKind::LayoutId | FieldKind::Text(_) => None,
+            FieldKind::LayoutId | FieldKind::Text(_) => false,
         }
-    }
-
-    // The stores of all planned writes.
-    fn stores(self) -> StoreList
-        ensures { result ≡ plan_stores self.entry.numbers self.entry.text_field self.entry.text.now }
-    {
-        let mut stores = FixedList::new(Store {
-            offset: 0,
-            value: 0,
-        });
-        let table = luminaire_fields();
-        for (index, field) in table.iter().enumerate() {
-            let row = Row {
-                index,
-                field: *field,
-            };
-            if let Some(bytes) = self.bytes_for(row) {
-                lay_write(row, bytes.as_slice(), &mut stores);
-            }
-        }
-        stores
     }
 }
 
@@ -377,6 +373,7 @@ pub fn planned_writes(
         text_field,
         text,
     };
+    let mut own = FixedList::new(0);
     let table = luminaire_fields();
     let mut count = 0;
     let mut used = 0;
@@ -385,7 +382,7 @@ pub fn planned_writes(
             index,
             field: *field,
         };
-        if let Some(own) = content.bytes_for(row) {
+        if content.set_bytes(row, &mut own) {
             let write = FieldWrite {
                 field: index,
                 len: own.len() as u8,
@@ -462,10 +459,19 @@ impl Plan {
         check_text(self.layout, row.field, text)
     }
 
-    // Whether what is wanted of each field may be written, by rising offset.
-    fn check_fields(self, text: &[u8]) -> Result<(), Refusal>
-        ensures { result ≡ tested (gather (field_checks self text.now) luminaire_fields) }
+    // Checks what is wanted of each field, by rising offset, and lays its stores, in one turn; answers how many there are.
+    // What is laid before a refusal stands for nothing.
+    fn lay_fields(self, text: &[u8], stores: &mut StoreRoom) -> Result<usize, Refusal>
+        ensures count { result ≡ checked (gather (field_checks self text.now) luminaire_fields) Err (Ok (length (stores_of self text.now))) }
+        ensures laid { IfOk result (λ _. stores.new ≡ laid_into (stores_of self text.now) stores.old) }
     {
+        let content = Content {
+            numbers: self.numbers,
+            text_field: self.text_field,
+            text,
+        };
+        let mut bytes = FixedList::new(0);
+        let mut laid = 0;
         let table = luminaire_fields();
         for (index, field) in table.iter().enumerate() {
             let row = Row {
@@ -473,8 +479,11 @@ impl Plan {
                 field: *field,
             };
             self.check_field(row, text)?;
+            if content.set_bytes(row, &mut bytes) {
+                laid = lay_write(row, bytes.as_slice(), stores, laid);
+            }
         }
-        Ok(())
+        Ok(laid)
     }
 
     fn has_unknown_field(self) -> bool
@@ -483,9 +492,11 @@ impl Plan {
         self.text_field.is_some_and(|index| FIELDS <= index)
     }
 
-    // Whether it may be written, whatever slices are lent for its stores.
-    fn check(self, text: &[u8]) -> Result<(), Refusal>
-        ensures { result ≡ tested (plan_checks self text.now) }
+    // The same for the whole plan, whatever slices are lent for its stores. The room is lent: handed back, it would be copied.
+    pub(crate) fn lay(self, text: &[u8], stores: &mut StoreRoom) -> Result<usize, Refusal>
+        ensures count { result ≡ checked (plan_checks self text.now) Err (Ok (length (stores_of self text.now))) }
+        ensures few { IfOk result (λ count. count ≤ 256) }
+        ensures laid { IfOk result (λ count. take count stores.new ≡ stores_of self text.now) }
     {
         if PATCH_BITS < self.numbers.patch_mask {
             return Err(Refusal::UnknownMaskBits);
@@ -493,20 +504,7 @@ impl Plan {
         if self.has_unknown_field() {
             return Err(Refusal::UnknownField);
         }
-        self.check_fields(text)
-    }
-
-    // The stores of the plan, whatever slices are lent for them.
-    pub(crate) fn store_list(self, text: &[u8]) -> Result<StoreList, Refusal>
-        ensures { result ≡ checked (plan_checks self text.now) Err (Ok (stores_of self text.now)) }
-    {
-        self.check(text)?;
-        let content = Content {
-            numbers: self.numbers,
-            text_field: self.text_field,
-            text,
-        };
-        Ok(content.stores())
+        self.lay_fields(text, stores)
     }
 
     // Lays the stores of the plan, and answers how many there are. By 01 two byte slices are lent, one for the offsets and
@@ -521,12 +519,12 @@ impl Plan {
         ensures offsets { offsets.new ≡ offsets_after self text.now offsets.old values.old }
         ensures values { values.new ≡ values_after self text.now offsets.old values.old }
     {
-        let stores = self.store_list(text)?;
-        let count = stores.len();
+        let mut stores = NO_STORES;
+        let count = self.lay(text, &mut stores)?;
         if offsets.len() < count || values.len() < count {
             return Err(Refusal::SliceTooShort);
         }
-        lay_stores(stores.as_slice(), offsets, values);
+        lay_stores(&stores[..count], offsets, values);
         Ok(count)
     }
 }

@@ -1,8 +1,9 @@
 // What the bytes of a bank say (memory_bank_parser.rs). The first byte given stands at the start offset; a field that is
 // not wholly present is absent.
-ghost use Rattle.std.specs.Prelude.{◌≡◌, ◌≤◌, ◌<◌, length, Some, IfSome, option_map, option_and_then, option_copied};
+ghost use Rattle.std.specs.Prelude.{◌≡◌, ◌≤◌, ◌<◌, [], ◌∷◌, length, Some, IfSome, option_map, option_and_then, option_copied};
 ghost use Rattle.bus.specs.Number.{number};
-ghost use Rattle.bus.specs.Value.{is_not_implemented, FitsWidth, laid_into};
+ghost use Rattle.bus.specs.Value.{FitsWidth, laid_into};
+ghost use Rattle.bank.specs.Writable.{format_in};
 ghost use Rattle.records.specs.Places.{field_at, byte_at, number_at, reading_of, reading_at, value_read, is_scale, scale_of, scale_at};
 ghost use Rattle.records.specs.Since.{dated, since_when, reading_after};
 ghost use Rattle.records.specs.Records.{bank0_identity, bank1_profile, bank0_bus_unit, condition, energy_bank, gear_diagnostics, source_diagnostics, luminaire_maintenance};
@@ -104,9 +105,9 @@ impl<'a> Given<'a> {
         offset: u8,
         width: ValueWidth,
         now_ms: u64,
-        earlier: Option<BankReading>,
+        earlier: Option<&BankReading>,
     ) -> Option<BankReading>
-        ensures reading { result ≡ reading_after self.entry.start_offset self.entry.bytes.now now_ms earlier offset width }
+        ensures reading { result ≡ reading_after self.entry.start_offset self.entry.bytes.now now_ms (option_copied earlier.entry) offset width }
         ensures fits { FitsWidth width (value_read result) }
     {
         // By a match: with `?` a record takes a tenth longer.
@@ -123,7 +124,27 @@ impl<'a> Given<'a> {
     fn read(self, place: &mut Option<BankReading>, offset: u8, width: ValueWidth, now_ms: u64)
         ensures { place.new ≡ reading_after self.entry.start_offset self.entry.bytes.now now_ms place.old offset width }
     {
-        *place = self.reading(offset, width, now_ms, *place);
+        match self.field(offset as usize, width.bytes()) {
+            Some(field) => {
+                let raw = classify(number_of(field), width);
+                // Each case is stored by itself: where they join first, a record takes a seventh longer.
+                match raw {
+                    BankValue::Reading(_) => {
+                        let reading = reading_of(raw, width, now_ms, place.as_ref());
+                        *place = Some(reading);
+                    }
+                    BankValue::NotImplemented => {
+                        let reading = reading_of(raw, width, now_ms, place.as_ref());
+                        *place = Some(reading);
+                    }
+                    BankValue::TemporarilyUnavailable => {
+                        let reading = reading_of(raw, width, now_ms, place.as_ref());
+                        *place = Some(reading);
+                    }
+                }
+            }
+            None => *place = None,
+        }
     }
 
     // A flag, and behind it its counter, for which there is an offset.
@@ -164,43 +185,48 @@ pub fn byte(bytes: &[u8], start_offset: u16, index: usize) -> Option<u8>
     Given::of(bytes, start_offset).byte(index)
 }
 
-fn is_not_implemented(raw: BankValue) -> bool
-    ensures { result ≡ is_not_implemented raw }
-{
-    matches!(raw, BankValue::NotImplemented)
-}
+// A reading with nothing to say.
+const SILENT: BankReading = BankReading {
+    value: None,
+    not_implemented: false,
+    temporarily_unavailable: false,
+    saturated: false,
+    tmask_since_ms: None,
+};
 
 // What a raw value says, and since when it has been unavailable: by the present time and the earlier reading.
 fn reading_of(
     raw: BankValue,
     width: ValueWidth,
     now_ms: u64,
-    earlier: Option<BankReading>,
+    earlier: Option<&BankReading>,
 ) -> BankReading
-    ensures { result ≡ dated now_ms earlier (reading_of width raw) }
+    ensures { result ≡ dated now_ms (option_copied earlier.entry) (reading_of width raw) }
 {
-    let is_unavailable = raw.is_temporarily_unavailable();
-    BankReading {
-        value: raw.value(),
-        not_implemented: is_not_implemented(raw),
-        temporarily_unavailable: is_unavailable,
-        saturated: raw.is_saturated(width),
-        tmask_since_ms: is_unavailable.then(|| since_when(now_ms, earlier)),
+    match raw {
+        BankValue::Reading(value) => BankReading {
+            value: Some(value),
+            saturated: value == width.max_valid(),
+            ..SILENT
+        },
+        BankValue::NotImplemented => BankReading {
+            not_implemented: true,
+            ..SILENT
+        },
+        BankValue::TemporarilyUnavailable => BankReading {
+            temporarily_unavailable: true,
+            tmask_since_ms: Some(since_when(now_ms, earlier)),
+            ..SILENT
+        },
     }
 }
 
 // Since when an unavailable reading has been so.
-fn since_when(now_ms: u64, earlier: Option<BankReading>) -> u64
-    ensures { result ≡ since_when now_ms earlier }
+fn since_when(now_ms: u64, earlier: Option<&BankReading>) -> u64
+    ensures { result ≡ since_when now_ms (option_copied earlier.entry) }
 {
     match earlier {
-        Some(
-            BankReading {
-                temporarily_unavailable: true,
-                tmask_since_ms: Some(since_ms),
-                ..
-            },
-        ) => since_ms,
+        Some(was) if was.temporarily_unavailable => was.tmask_since_ms.unwrap_or(now_ms),
         _ => now_ms,
     }
 }
@@ -216,7 +242,7 @@ pub fn parse_reading(
     ensures reading { result ≡ reading_after start_offset bytes.now now_ms (option_copied earlier.entry) offset width }
     ensures fits { FitsWidth width (value_read result) }
 {
-    Given::of(bytes, start_offset).reading(offset, width, now_ms, earlier.copied())
+    Given::of(bytes, start_offset).reading(offset, width, now_ms, earlier)
 }
 
 fn is_scale(signed: i8) -> bool
@@ -311,6 +337,27 @@ pub struct ParsedLuminaire {
     pub free_use: Option<FixedText<32>>,
 }
 
+const NO_LUMINAIRE: ParsedLuminaire = ParsedLuminaire {
+    content_format_id: None,
+    year: None,
+    week: None,
+    nominal_input_power_w: None,
+    power_at_minimum_w: None,
+    nominal_min_ac_voltage_v: None,
+    nominal_max_ac_voltage_v: None,
+    nominal_light_output_lm: None,
+    cri: None,
+    cct_kelvin: None,
+    light_distribution_type: None,
+    luminaire_colour: None,
+    luminaire_identification: None,
+    light_distribution: None,
+    oem_name: None,
+    customer_stocking_number: None,
+    lamp_current_ma: None,
+    free_use: None,
+};
+
 // What the record gives for a raw number: a value only where its rule shows it.
 fn luminaire_value(raw: u32, rule: NumberRule, format: LuminaireFormat) -> LuminaireValue
     ensures { result ≡ value_in rule format raw }
@@ -366,6 +413,13 @@ impl<'a> LuminaireBank<'a> {
     }
 }
 
+// The format that a bank has by its id.
+fn format_of(content_format_id: Option<u16>) -> Option<LuminaireFormat>
+    ensures { result ≡ format_in content_format_id }
+{
+    content_format_id.and_then(LuminaireFormat::from_content_format_id)
+}
+
 pub fn parse_bank1_luminaire(bytes: &[u8], start_offset: u16) -> ParsedLuminaire
     ensures { result ≡ luminaire start_offset bytes.now }
 {
@@ -373,7 +427,14 @@ pub fn parse_bank1_luminaire(bytes: &[u8], start_offset: u16) -> ParsedLuminaire
     let content_format_id = given.content_format_id();
     let all = LuminaireBank {
         given,
-        format: content_format_id.and_then(LuminaireFormat::from_content_format_id),
+        format: format_of(content_format_id),
+    };
+    // Without a format nothing else is looked at.
+    let Some(_) = all.format else {
+        return ParsedLuminaire {
+            content_format_id,
+            ..NO_LUMINAIRE
+        };
     };
     let from4 = all.since(LuminaireFormat::V4);
     let from5 = all.since(LuminaireFormat::V5);
@@ -468,8 +529,24 @@ fn push_next(rest: &[u8], out: &mut [u8]) -> Option<Pushed>
         let len = push(&format_hex_escape(first), out)?;
         return Some(Pushed { taken: 1, len });
     };
-    let len = push(&rest[..taken], out)?;
+    // A letter of one byte by itself: the copy of a slice takes longer than all else.
+    let len = if taken == 1 {
+        push_byte(first, out)?
+    } else {
+        push(&rest[..taken], out)?
+    };
     Some(Pushed { taken, len })
+}
+
+fn push_byte(byte: u8, out: &mut [u8]) -> Option<usize>
+    ensures answer { result ≡ pushed_len (byte ∷ []) out.old }
+    ensures stored { out.new ≡ after_push (byte ∷ []) out.old }
+{
+    if out.is_empty() {
+        return None;
+    }
+    out[0] = byte;
+    Some(1)
 }
 
 // Stores a piece at the start of out, and answers its length; nothing of one that does not fit.
@@ -516,14 +593,14 @@ pub fn parse_energy_bank(
             0x05,
             ValueWidth::U48,
             now_ms,
-            earlier.and_then(|was| was.energy),
+            earlier.and_then(|was| was.energy.as_ref()),
         ),
         power_scale: given.scale(0x0B),
         power: given.reading(
             0x0C,
             ValueWidth::U32,
             now_ms,
-            earlier.and_then(|was| was.power),
+            earlier.and_then(|was| was.power.as_ref()),
         ),
     }
 }
@@ -684,19 +761,19 @@ pub fn parse_luminaire_maintenance(
             0x04,
             ValueWidth::U8,
             now_ms,
-            earlier.and_then(|was| was.rated_life_kilohours),
+            earlier.and_then(|was| was.rated_life_kilohours.as_ref()),
         ),
         reference_temperature_offset60: given.reading(
             0x05,
             ValueWidth::U8,
             now_ms,
-            earlier.and_then(|was| was.reference_temperature_offset60),
+            earlier.and_then(|was| was.reference_temperature_offset60.as_ref()),
         ),
         rated_starts_hundreds: given.reading(
             0x06,
             ValueWidth::U16,
             now_ms,
-            earlier.and_then(|was| was.rated_starts_hundreds),
+            earlier.and_then(|was| was.rated_starts_hundreds.as_ref()),
         ),
     }
 }

@@ -35,8 +35,6 @@ fn hex_digit(n: u8) -> u8
     requires { n < 16 }
     ensures { result ≡ hex_digit n }
 {
-    if n < 10 {
-        return b'0' + n;
-    }
-    b'A' + (n - 10)
+    let digits: &'static [u8] = b"0123456789ABCDEF";
+    digits[n as usize]
 }

@@ -1,17 +1,13 @@
 -- `records::memory_bank_parser::parse_bank1_luminaire` meets its contract, member by member.
 -- Assumes nothing.
-use mathlib.Core.Path.{◌≡◌}
-use borrow.Author.Tests.{tests}
-use Rattle.std.proofs.Common.{rules}
-use Rattle.bank.specs.Writable.{format_in}
+use mathlib.Core.Path.{sym, ◌∙◌}
 use Rattle.bank.specs.Fields.{luminaire_fields, place_of}
-use Rattle.records.proofs.Luminaire.{from_first}
+use Rattle.records.proofs.Luminaire.{from_first, id_alone}
 use Rattle.records.proofs.memory_bank_parser.parse_bank1_luminaire.Goals as goal
 
 pub returns : goal.returns
 unfolding luminaire_fields place_of
 returns c =
-    let format : c.and_then.result ≡ format_in c.content_format_id-content_format_id.result = search (rules, tests) in
     rw (
       c.number.ensures,
       c.number-2.ensures,
@@ -34,7 +30,14 @@ returns c =
       c.since-from4.ensures.later,
       c.since-from5.ensures.same,
       c.since-from5.ensures.later,
-      format,
+      c.format_of.ensures,
       c.content_format_id-content_format_id.ensures,
       c.of-given.ensures,
     ) (simp from_first)
+
+pub returns-in_default : goal.returns-in_default
+unfolding luminaire_fields place_of
+returns-in_default c =
+    let id = c.content_format_id-content_format_id.ensures in
+    let none = rw (id, c.of-given.ensures) at (sym c.format_of.ensures ∙ c.in_default.is) in
+    rw (id, c.of-given.ensures) (id_alone c.args.start_offset c.args.bytes.now none)
