@@ -6,7 +6,7 @@ use Prim.Native.Nat.{◌≤◌}
 use lib.Dec.{T, leb, leb→le}
 use Rattle.bus.specs.declared.ValueWidth.{ValueWidth}
 use Rattle.bus.specs.declared.ValueWidth.TheVariants.{U8, U16, U24, U32, U48, I8, I16, I32}
-use Rattle.bus.specs.Width.{bytes_of, mask_of, SignedMasks}
+use Rattle.bus.specs.Width.{bytes_of, mask_of, SignedMasks, UnsignedMasks}
 use Rattle.bus.proofs.Tests.{and_left, and_right}
 
 -- a test that holds of each width in the table holds of a width
@@ -38,3 +38,6 @@ large_mask w = leb→le 0x7F (mask_of w) (every (λ v. leb 0x7F (mask_of v)) tt 
 
 pub signed_masks : SignedMasks
 signed_masks = refl
+
+pub unsigned_masks : UnsignedMasks
+unsigned_masks = refl

@@ -1,6 +1,6 @@
 -- 01, "The records", the paragraph "Masks (DiiA 252)", and "A scale is the signed meaning of its byte".
 -- Assumes nothing.
-use Rattle.std.specs.Prelude.{◌≡◌, Bool, true, false, cond, [], ◌∷◌, map, ℕ, ◌+◌, ◌-◌, ◌*◌, ◌/◌, ◌%◌, ◌^◌, ◌≤◌, ltb, ℤ, pos, ◌-ℤ◌}
+use Rattle.std.specs.Prelude.{◌≡◌, Bool, true, false, cond, List, [], ◌∷◌, map, ℕ, ◌+◌, ◌-◌, ◌*◌, ◌/◌, ◌%◌, ◌^◌, ◌≤◌, ltb, ℤ, pos, ◌-ℤ◌}
 use Rattle.bus.specs.declared.ValueWidth.{ValueWidth}
 use Rattle.bus.specs.declared.ValueWidth.TheVariants.{U8, U16, U24, U32, U48, I8, I16, I32}
 
@@ -41,6 +41,13 @@ mask_of w = 2 ^ (bits_of w - sign_bits w) - 1
 -- The formula gives the signed masks that are named there.
 abbrev pub SignedMasks : Type 0
 SignedMasks = map mask_of (I8 ∷ I16 ∷ I32 ∷ []) ≡ 0x7F ∷ 0x7FFF ∷ 0x7FFFFFFF ∷ []
+
+-- "2 to the width less 1 unsigned": no bit of theirs is a sign's
+abbrev unsigned : List ValueWidth
+unsigned = U8 ∷ U16 ∷ U24 ∷ U32 ∷ U48 ∷ []
+
+abbrev pub UnsignedMasks : Type 0
+UnsignedMasks = map mask_of unsigned ≡ map (λ w. 2 ^ bits_of w - 1) unsigned
 
 -- "One less is temporarily unavailable"
 abbrev pub tmask_of : ValueWidth → ℕ
