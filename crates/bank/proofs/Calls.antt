@@ -47,7 +47,7 @@ laid_behind d at x y h =
     ∙ ap (λ (r : List ℕ). r ++ drop (at + length x + length y) d) (append_assoc (take at d) x y)
     ∙ ap (λ (k : ℕ). take at d ++ (x ++ y) ++ drop k d) both
 
-laid_length : (d : List ℕ) (at : ℕ) (x : List ℕ) → at + length x ≤ length d → length (laid d at x) ≡ length d
+pub laid_length : (d : List ℕ) (at : ℕ) (x : List ℕ) → at + length x ≤ length d → length (laid d at x) ≡ length d
 unfolding laid
 laid_length d at x h = simp (length-append, length-take, length-drop) (omega arith)
 

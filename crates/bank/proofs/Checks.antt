@@ -1,7 +1,7 @@
 -- Laws of checks: lists of them in two parts, and what is known where none applies.
 -- Assumes nothing.
 use Rattle.std.specs.Prelude.{is_none, is_ok, Err, None, Ok, Option, Result, Some}
-use mathlib.Core.Path.{◌≡◌, refl, sym, ap, ◌∙◌}
+use mathlib.Core.Path.{◌≡◌, refl, sym, ◌∙◌}
 use mathlib.Core.Bool.{Bool, true, false, ◌||◌, true≢false}
 use mathlib.Core.List.{List, [], ◌∷◌, ◌++◌}
 use Prim.Native.Nat.{ℕ}
@@ -9,7 +9,7 @@ use native.Mathlib.Omega.{arith}
 use Rattle.bus.proofs.Tests.{by_test}
 use Rattle.bus.proofs.Lists.{no_element}
 use Rattle.bank.specs.declared.refusal.Refusal.{Refusal}
-use Rattle.bank.specs.Refusal.{Check, first_of, unless_refused, tested}
+use Rattle.bank.specs.Refusal.{Check, first_of, unless_refused, checked, tested}
 
 -- a refusal by the first part is the refusal by both
 pub refused_first : {r : Refusal} (xs ys : List Check) → first_of xs ≡ Some r → first_of (xs ++ ys) ≡ Some r
@@ -77,21 +77,29 @@ ok_exactly cs = by (first_of cs)
     by None = refl
     by (Some r) = refl
 
--- what a call answers that only tests, and which refusal it tells
-module _ (cs : List Check) where
-  pub told_err : {r : Refusal} → tested cs ≡ Err r → first_of cs ≡ Some r
-  told_err {r} e = go (first_of cs) refl
+-- a call that answers passed its checks, and a refusal is theirs
+module _ {A : Type 0} (cs : List Check) (answer : A) where
+  pub was_answered : {a : A} → checked cs Err (Ok answer) ≡ Ok a → (first_of cs ≡ None) × (a ≡ answer)
+  was_answered {a} e = go (first_of cs) refl
+    where
+      go : (o : Option Refusal) → first_of cs ≡ o → (first_of cs ≡ None) × (a ≡ answer)
+      go (Some r) f = not_both (sym (rw f at e))
+      go None f =
+          let same : ◌≡◌ {A = Result A Refusal} (Ok answer) (Ok a) = rw f at e in
+          (f, cc)
+
+  pub was_refused : {r : Refusal} → checked cs Err (Ok answer) ≡ Err r → first_of cs ≡ Some r
+  was_refused {r} e = go (first_of cs) refl
     where
       go : (o : Option Refusal) → first_of cs ≡ o → first_of cs ≡ Some r
-      go None f = not_both {x = tt {0}} (rw f at e)
-      go (Some x) f =
-          let h : ◌≡◌ {A = Result (Unit {0}) Refusal} (Err x) (Err r) = rw f at e in
-          let same : x ≡ r = cc in
-          f ∙ ap Some same
+      go None f = not_both (rw f at e)
+      go (Some q) f =
+          let same : ◌≡◌ {A = Result A Refusal} (Err q) (Err r) = rw f at e in
+          f ∙ cc
 
-  pub told_ok : {u : Unit {0}} → tested cs ≡ Ok u → first_of cs ≡ None
-  told_ok {u} e = go (first_of cs) refl
-    where
-      go : (o : Option Refusal) → first_of cs ≡ o → first_of cs ≡ None
-      go None f = f
-      go (Some x) f = not_both (sym (rw f at e))
+-- and one that only tests
+pub told_err : (cs : List Check) {r : Refusal} → tested cs ≡ Err r → first_of cs ≡ Some r
+told_err cs e = was_refused cs (tt {0}) e
+
+pub told_ok : (cs : List Check) {u : Unit {0}} → tested cs ≡ Ok u → first_of cs ≡ None
+told_ok cs e = (was_answered cs (tt {0}) e).0

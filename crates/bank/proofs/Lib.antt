@@ -15,3 +15,4 @@ pub mod Calls
 pub mod Kept
 pub mod LampCurrent
 pub mod Running
+pub mod Counting

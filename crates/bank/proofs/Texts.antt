@@ -1,9 +1,10 @@
 -- Laws of printable texts: the first byte that is not printable, and the first byte of a printable text.
 -- Assumes nothing.
 use Rattle.std.proofs.lemmas.Option.{same_Some}
-use Rattle.std.specs.Prelude.{None, Option, Some, not, option_map, position, slice_get}
+use Rattle.std.specs.Prelude.{Bool, ◌&&◌, None, Option, Some, not, option_map, position, slice_get}
 use Rattle.std.specs.List.{position_from}
 use Rattle.std.proofs.lemmas.Iterator.Adapters.{position_from-zero}
+use Rattle.std.proofs.Math.Bool.{and_assoc, and-true}
 use mathlib.Core.Path.{◌≡◌, refl, sym, ap, subst, ◌∙◌}
 use mathlib.Core.Bool.{true, false}
 use mathlib.Core.List.{List, [], ◌∷◌}
@@ -81,6 +82,15 @@ pub none_printable : (bytes : List ℕ) → printable bytes ≡ true → first_n
 unfolding first_not_printable printable
 none_printable [] e = refl
 none_printable (b ∷ bs) e = rw (first_true (is_printable b) (printable bs) e) (ap (option_map suc) (none_printable bs (second_true (is_printable b) (printable bs) e)))
+
+-- a test of every byte, one byte on and at the end: what was told so far, with what is left
+pub told_more : {text rest : List ℕ} {b : ℕ} (told : Bool) → text ≡ b ∷ rest → ((told && is_printable b) && printable rest) ≡ (told && printable text)
+unfolding printable
+told_more {text} {rest} {b} told e = rw e (and_assoc told (is_printable b) (printable rest))
+
+pub told_all : {text : List ℕ} (told : Bool) → text ≡ [] → (told && printable text) ≡ told
+unfolding printable
+told_all told e = rw e (and-true told)
 
 -- what a scan finds is the first byte outside
 first_later : {b i : ℕ} {bs : List ℕ} → is_printable b ≡ true → FirstOutside bs i → FirstOutside (b ∷ bs) (suc i)

@@ -9,3 +9,4 @@ pub mod ReadOut
 pub mod Calls
 pub mod Kept
 pub mod LampCurrent
+pub mod Count

@@ -3,7 +3,7 @@ ghost use Rattle.std.specs.Prelude.{◌≡◌, slice_get};
 ghost use Rattle.bus.specs.Part251.{from_format};
 ghost use Rattle.bank.specs.Refusal.{tested};
 ghost use Rattle.bank.specs.Rules.{shows};
-ghost use Rattle.bank.specs.Fields.{luminaire_fields, place_of, last_offset_of, ends_by, fits, accepts_number, is_printable, first_not_printable, is_text_kind, accepts_text, id_in, from_header};
+ghost use Rattle.bank.specs.Fields.{luminaire_fields, place_of, last_offset_of, ends_by, fits, accepts_number, is_printable, printable, first_not_printable, is_text_kind, accepts_text, id_in, from_header};
 ghost use Rattle.bank.specs.Writable.{read_only, missing, format_in, check_writable, text_checks};
 
 use crate::refusal::Refusal;
@@ -252,10 +252,27 @@ fn is_printable(byte: u8) -> bool
     matches!(byte, b' '..=b'~')
 }
 
+// Without a way out of the loop many bytes are tested at once.
+fn all_printable(text: &[u8]) -> bool
+    ensures { result ≡ printable text.now }
+{
+    let mut all = true;
+    for byte in text.iter() {
+        all &= is_printable(*byte);
+    }
+    all
+}
+
+// Fewer bytes are searched in the time that it takes to test them at once.
+const AT_ONCE: usize = 8;
+
 // The index of the first byte that is not printable.
 fn first_not_printable(text: &[u8]) -> Option<usize>
     ensures { result ≡ first_not_printable text.now }
 {
+    if AT_ONCE <= text.len() && all_printable(text) {
+        return None;
+    }
     text.iter().position(|byte| !is_printable(*byte))
 }
 

@@ -2,6 +2,7 @@
 ghost use Rattle.std.specs.Prelude.{◌≡◌};
 ghost use Rattle.bank.specs.Refusal.{tested};
 ghost use Rattle.bank.specs.ReadOut.{rule_of, is_done, want_checks, starting, wanting, accepting, buffer_after};
+ghost use Rattle.bank.specs.Count.{counted_chunks};
 
 use crate::layout::ChunkMode;
 use crate::refusal::Refusal;
@@ -88,4 +89,19 @@ impl ReadOut {
         buffer[self.next as usize..end as usize].copy_from_slice(chunk);
         Ok(ReadOut { next: end, ..self })
     }
+}
+
+// How many chunks a read-out has from its start on, all at one budget; no byte of the bank is asked for.
+pub fn chunk_count(bank: u8, length: u16, mode: ChunkMode, budget: u16) -> Result<u16, Refusal>
+    ensures { result ≡ counted_chunks bank length mode budget }
+{
+    let start = ReadOut::starting(bank, length, mode)?;
+    start.check(budget)?;
+    let mut next = 0;
+    let mut count = 0;
+    while next < length {
+        next += mode.chunk_len(bank, next, length - next, budget);
+        count += 1;
+    }
+    Ok(count)
 }
