@@ -3,33 +3,33 @@
 use std::io;
 
 use crate::block::{add_line, answers, has_room, requests};
-use crate::function::{function_of, functions, Scale, Source};
+use crate::function::{function_of, functions, number_of, Scale, Source};
 use crate::program::Program;
 
 pub fn compare(program: &str, seed: u64) -> io::Result<()> {
     println!("seed {seed}");
     let mut source = Source::new(Scale::Full, seed);
-    let mut comparison = Comparison { program: Program::start(program)?, block: Vec::new() };
-    let mut total = 0;
+    let program = Program::start(program)?;
+    let mut comparison = Comparison { program, block: Vec::new(), counts: [0; COUNTS_LEN] };
     for function in functions() {
-        let mut count = 0;
-        function.ask(&mut source, &mut |request| {
-            count += 1;
-            comparison.ask(request)
-        })?;
+        function.ask(&mut source, &mut |request| comparison.ask(request))?;
         comparison.exchange()?;
+        let count = comparison.counts[usize::from(function.number())];
         println!("{:02X} {}: {count}", function.number(), function.name());
-        total += count;
     }
     comparison.program.end()?;
-    println!("compared {total} cases, 0 differences");
+    println!("compared {} cases, 0 differences", comparison.counts.iter().sum::<usize>());
     Ok(())
 }
 
-/// The running program, and the requests that it has not been sent yet.
+/// A count for each number of a function.
+const COUNTS_LEN: usize = 1 << u8::BITS;
+
+/// The running program, the requests that it has not been sent yet, and how many each function has had.
 struct Comparison {
     program: Program,
     block: Vec<u8>,
+    counts: [usize; COUNTS_LEN],
 }
 
 impl Comparison {
@@ -38,6 +38,9 @@ impl Comparison {
             self.exchange()?;
         }
         add_line(&mut self.block, request);
+        if let Some(number) = number_of(request) {
+            self.counts[usize::from(number)] += 1;
+        }
         Ok(())
     }
 

@@ -50,6 +50,7 @@ pub struct Row<A, R> {
     domain: Option<fn() -> Cases<A>>,
     random: Option<fn(&mut Source) -> A>,
     rounds: usize,
+    also: Option<fn(&A, &mut Line)>,
 }
 
 /// Cases that are made one at a time.
@@ -58,7 +59,7 @@ pub type Cases<A> = Box<dyn Iterator<Item = A>>;
 impl<A, R> Row<A, R> {
     /// `all` makes the cases that every run has: a whole domain, or its edges.
     pub const fn new(number: u8, name: &'static str, answer: fn(A) -> R, all: fn(&mut Source) -> Vec<A>) -> Self {
-        Self { number, name, answer, all, domain: None, random: None, rounds: 1 }
+        Self { number, name, answer, all, domain: None, random: None, rounds: 1, also: None }
     }
 
     /// Adds, at full scale, a domain that is too large to be held at once.
@@ -78,6 +79,21 @@ impl<A, R> Row<A, R> {
         self.rounds = rounds;
         self
     }
+
+    /// Asks, at full scale, another function of each case too, by the request that `also` puts. That one has a larger
+    /// number, so that its own turn ends with all its cases asked.
+    pub const fn also(mut self, also: fn(&A, &mut Line)) -> Self {
+        self.also = Some(also);
+        self
+    }
+}
+
+impl<A: Put, R> Row<A, R> {
+    pub fn put_request(&self, case: &A, request: &mut Line) {
+        request.clear();
+        request.put(&self.number);
+        request.put(case);
+    }
 }
 
 /// A row of any types.
@@ -88,7 +104,7 @@ pub trait Function {
     /// Puts the Rust's answer, or gives none if the arguments are malformed.
     fn answer(&self, args: &mut Args, answer: &mut Line) -> Option<()>;
 
-    /// Asks every case, as one request each.
+    /// Asks every case, as one request each, and those that come with it.
     fn ask(&self, source: &mut Source, ask: &mut Ask) -> io::Result<()>;
 }
 
@@ -109,11 +125,15 @@ impl<A: Put + Take, R: Put> Function for Row<A, R> {
     }
 
     fn ask(&self, source: &mut Source, ask: &mut Ask) -> io::Result<()> {
+        let also = source.scale.pick(self.also, None);
         let mut request = Line::default();
         let mut ask_case = |case: A| {
-            request.clear();
-            request.put(&self.number);
-            request.put(&case);
+            self.put_request(&case, &mut request);
+            ask(request.text())?;
+            let Some(also) = also else {
+                return Ok(());
+            };
+            also(&case, &mut request);
             ask(request.text())
         };
         (self.all)(source).into_iter().try_for_each(&mut ask_case)?;
@@ -145,9 +165,14 @@ pub fn functions() -> impl Iterator<Item = &'static dyn Function> {
     TABLES.into_iter().flatten().copied()
 }
 
+/// The number of the function that a request asks.
+pub fn number_of(request: &[u8]) -> Option<u8> {
+    Args::new(request).take()
+}
+
 /// The function that a request asks.
 pub fn function_of(request: &[u8]) -> Option<&'static dyn Function> {
-    let number: u8 = Args::new(request).take()?;
+    let number = number_of(request)?;
     let table = TABLES.get(usize::from(number >> 4))?;
     table.iter().copied().find(|function| function.number() == number)
 }

@@ -67,7 +67,7 @@ impl Put for BankField {
     }
 }
 
-const BANKS_WITH_A_MAP: [u8; 7] = [1, 202, 203, 204, 205, 206, 207];
+pub const BANKS_WITH_A_MAP: [u8; 7] = [1, 202, 203, 204, 205, 206, 207];
 
 /// The banks with a map and their neighbours, and the first and last bank.
 const TELLING_BANKS: [u8; 12] = [0, 1, 2, 201, 202, 203, 204, 205, 206, 207, 208, 255];

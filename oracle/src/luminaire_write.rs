@@ -19,7 +19,7 @@ use crate::line::{Args, Line, Put, Take};
 use crate::part251::FORMATS;
 use crate::refusal::Refusal;
 use crate::rng::Rng;
-use plan::{plan_cases, planned, random_plan};
+use plan::{ask_count, plan_cases, planned, random_plan};
 use texts::{accepts_text, random_text, text_cases, TextCase};
 use wanted::mask_cases;
 use writes::{
@@ -27,7 +27,7 @@ use writes::{
     writes_cases, HeldCase, WriteCase,
 };
 
-pub use plan::{longest, planned_stores, random_layout_and_wanted, wanting, with_bit};
+pub use plan::{longest, planned_stores, random_layout_and_wanted, wanting, with_bit, STORE_COUNT};
 pub use rules::SHOWS_BACK;
 pub use texts::{places, printable, TELLING_BYTES, TEXT_REFUSAL};
 pub use wanted::{accepted_number, number_fields, random_wanted, telling_u32s, text_fields, Numbers, Wanted};
@@ -97,7 +97,7 @@ pub const FUNCTIONS: &[&dyn Function] = &[
     .random(random_held),
     &Row::new(0x3C, "FieldWrite::stages", stages, write_cases).random(random_write),
     &Row::new(0x3D, "the count of wanted numbers", |numbers: Numbers| numbers.mask.count_ones(), mask_cases),
-    &Row::new(0x3E, "a plan", planned, plan_cases).random(random_plan).rounds(2),
+    &Row::new(0x3E, "a plan", planned, plan_cases).random(random_plan).rounds(2).also(ask_count),
     &Row::new(
         0x3F,
         "the constants of luminaire_write.rs",

@@ -1,17 +1,19 @@
 //! The read-out. The Rust has none: here is a plain second implementation, on the Rust's `chunk_len` and the rule of each
-//! mode over it. Lists of calls are in its folder.
+//! mode over it. Lists of calls, and the count of chunks, are in its folder.
 
 mod calls;
+mod count;
 
 use dali2rust_domain::dali::banks::part251::BANK_LUMINAIRE_INFO;
 
 use crate::function::{Function, Row, Scale, Source};
 use crate::layout::{chunk_len_in, ChunkMode, MODES};
 use crate::line::{Args, Line, Output, Put, Take};
-use crate::luminaire_write::{SHOWS_BACK, TEXT_REFUSAL};
+use crate::luminaire_write::{SHOWS_BACK, STORE_COUNT, TEXT_REFUSAL};
 use crate::refusal::Refusal;
 use crate::rng::Rng;
 use calls::{answered, list_cases, random_list};
+use count::CHUNK_COUNT;
 
 pub use calls::{random_answers, random_calls, refused, run, whole_list, Call, CallList, REFUSED};
 
@@ -21,7 +23,9 @@ pub const FUNCTIONS: &[&dyn Function] = &[
     &Row::new(0x42, "ReadOut::wanting", |(read_out, budget)| wanting(read_out, budget), want_cases).random(random_want),
     &Row::new(0x43, "ReadOut::accepting", accepted, accept_cases).random(random_accept),
     &Row::new(0x44, "call_list::run", answered, list_cases).random(random_list),
+    &CHUNK_COUNT,
     // The numbers of their own file are used up.
+    &STORE_COUNT,
     &SHOWS_BACK,
     &TEXT_REFUSAL,
 ];

@@ -21,6 +21,7 @@ pub(crate) fn answer(number: u8, request: &mut Request, out: &mut Output) {
         0x38 => out.put(bank::check_writable(request.take(), request.take())),
         0x39..=0x3F => plan::answer(number, request, out),
         // The numbers of this file are used up: these stand with the read-out.
+        0x46 => plan::answer(number, request, out),
         0x47 => out.put(NumberRule::take(request).shows_back(request.take(), request.take())),
         0x48 => out.put(LuminaireField::take(request).check_text(request.take())),
         _ => {}

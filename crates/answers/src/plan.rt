@@ -18,6 +18,7 @@ pub(crate) fn answer(number: u8, request: &mut Request, out: &mut Output) {
         0x3D => out.put(LuminaireNumbers::take(request).wanted()),
         0x3E => stores(request, out),
         0x3F => constants(out),
+        0x46 => out.put(Plan::take(request).count(request.take())),
         _ => {}
     }
 }

@@ -3,6 +3,7 @@ use crate::calls::{CALLS_LEN, NO_ANSWER, NO_CALL, take_calls};
 use crate::luminaire_write;
 use crate::output::{Output, Put};
 use crate::request::{NUMBERS_LEN, REQUEST_LEN, Request, Take};
+use bank::read_out::chunk_count;
 use bank::{ReadOut, Wanted, call_list};
 
 // By a match, as in main.rt.
@@ -13,7 +14,13 @@ pub(crate) fn answer(number: u8, request: &mut Request, out: &mut Output) {
         0x42 => out.put(ReadOut::take(request).wanting(request.take())),
         0x43 => accepting(request, out),
         0x44 => run(request, out),
-        0x47..=0x48 => luminaire_write::answer(number, request, out),
+        0x45 => out.put(chunk_count(
+            request.take(),
+            request.take(),
+            request.take(),
+            request.take(),
+        )),
+        0x46..=0x48 => luminaire_write::answer(number, request, out),
         _ => {}
     }
 }

@@ -19,14 +19,13 @@ use Rattle.bank.specs.declared.layout.ChunkMode.{ChunkMode}
 use Rattle.bank.specs.Chunk.{ChunkRule, chunk_in}
 use Rattle.bank.specs.ReadOut.{rule_of, fresh, invalid, starting}
 use Rattle.bank.specs.Calls.{Call, State, state_of, step, after, answers_of}
-use Rattle.bank.proofs.Checks.{refused_first, passed_first, not_both, told_ok, told_err}
+use Rattle.bank.proofs.Checks.{refused_first, passed_first, not_both, told_ok, told_err, was_answered, was_refused}
 use Rattle.records.specs.declared.luminaire_write.LuminaireNumbers.{LuminaireNumbers}
 use Rattle.records.specs.declared.luminaire_write.Plan.{Plan}
 use Rattle.records.specs.Plan.{plan_checks, stores_of}
 use Rattle.records.specs.Cut.{cut_bank}
 use Rattle.records.specs.Claim.{begin, CutReadsBack}
 use Rattle.records.specs.CutRun.{plan_for, run_checks, cut_of, bank_behind, read_back, buffer_behind, answers_behind, EveryRunReadsBack, RunLeavesAll, EveryRefusedRunLeavesAll}
-use Rattle.records.proofs.Refusals.{answered, refused}
 use Rattle.records.proofs.Cutting.{length_stored}
 use Rattle.records.proofs.Plans.{passed_plan}
 use Rattle.records.proofs.Claim.{every_mode_reads_back}
@@ -46,7 +45,7 @@ module _ (mode : ChunkMode) (numbers : LuminaireNumbers) (which : Option ℕ) (t
 
   pub start_refused : {s : (Result ReadOut Refusal)} {r : Refusal} → s ≡ starting 1 (length old) mode → s ≡ Err r → checks ≡ Some r
   unfolding run_checks
-  start_refused e t = refused_first first_checks _ (refused first_checks (fresh 1 (length old) mode) (sym e ∙ t))
+  start_refused e t = refused_first first_checks _ (was_refused first_checks (fresh 1 (length old) mode) (sym e ∙ t))
 
   pub record Started (out : ReadOut) : Type 0 where
     pub is : out ≡ fresh 1 (length old) mode
@@ -55,7 +54,7 @@ module _ (mode : ChunkMode) (numbers : LuminaireNumbers) (which : Option ℕ) (t
   pub start_accepted : {s : (Result ReadOut Refusal)} {out : ReadOut} → s ≡ starting 1 (length old) mode → s ≡ Ok out → Started out
   unfolding run_checks
   start_accepted e t =
-      let told = answered first_checks (fresh 1 (length old) mode) (sym e ∙ t) in
+      let told = was_answered first_checks (fresh 1 (length old) mode) (sym e ∙ t) in
       record { is = told.1; then_plan = passed_first first_checks _ told.0 }
 
   module _ (k : ℕ) (buffer : List ℕ) (calls : List Call) (answers : List Answer) where

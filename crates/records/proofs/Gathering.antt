@@ -1,6 +1,6 @@
 -- Laws of what the fields give one after the other, and of what a list's elements give.
 -- Assumes nothing.
-use Rattle.std.proofs.lemmas.Option.{same_Some}
+use Rattle.std.proofs.lemmas.Option.{get_or_from_slice_get, same_Some, slice_get_within}
 use Rattle.std.specs.Prelude.{Some, slice_get}
 use mathlib.Core.Path.{◌≡◌, refl, sym, ap, ◌∙◌}
 use mathlib.Core.List.{List, [], ◌∷◌, ◌++◌, append_assoc, append-nil}
@@ -9,6 +9,7 @@ use native.Mathlib.Numerals.{add-one}
 use native.Mathlib.Omega.{arith}
 use native.Mathlib.Nat.{le_of_suc-le-suc, not-suc-le-zero, suc_inj, suc-ne-zero}
 use lib.ListN.{length, take, get_or, length-append}
+use lib.Seq.{take-nil}
 use Rattle.bus.proofs.Lists.{no_element}
 use Rattle.bank.specs.declared.luminaire_write.LuminaireField.{LuminaireField}
 use Rattle.records.specs.Writes.{gather, flat, Each}
@@ -36,6 +37,22 @@ module _ {A : Type 0} where
       → gather g (take (i + 1) fs) ≡ gather g (take i fs) ++ g i (get_or fs i d)
   gather_next g fs i d h = ap (λ (n : ℕ). gather g (take n fs)) (add-one i) ∙ gather_suc g fs i d h
 
+  pub gather_row : (g : ℕ → LuminaireField → List A) (fs : List LuminaireField) (i : ℕ) {f : LuminaireField} → slice_get fs i ≡ Some f
+      → gather g (take (i + 1) fs) ≡ gather g (take i fs) ++ g i f
+  gather_row g fs i {f} e =
+      gather_next g fs i f (slice_get_within fs i f e) ∙ ap (λ (x : LuminaireField). gather g (take i fs) ++ g i x) (get_or_from_slice_get fs i f f e)
+
+  -- fields that give nothing
+  pub gather_gap : (g : ℕ → LuminaireField → List A) (fs : List LuminaireField) (from to : ℕ) → from ≤ to
+      → ((i : ℕ) (f : LuminaireField) → from ≤ i → i < to → slice_get fs i ≡ Some f → g i f ≡ []) → gather g (take to fs) ≡ gather g (take from fs)
+  gather_gap g [] from to h none = simp take-nil refl
+  gather_gap g (f ∷ fs) zero zero h none = refl
+  gather_gap g (f ∷ fs) zero (suc to) h none =
+      rw (none 0 f (omega arith) (omega arith) refl) (gather_gap (λ i. g (suc i)) fs zero to (omega arith) (λ i k a b e. none (suc i) k (omega arith) (omega arith) e))
+  gather_gap g (f ∷ fs) (suc from) zero h none = let z : ⊥ = omega arith in absurd z
+  gather_gap g (f ∷ fs) (suc from) (suc to) h none =
+      ap (λ (r : List A). g 0 f ++ r) (gather_gap (λ i. g (suc i)) fs from to (omega arith) (λ i k a b e. none (suc i) k (omega arith) (omega arith) e))
+
   -- the first fields come first
   pub gather_front : (g : ℕ → LuminaireField → List A) (fs : List LuminaireField) (i : ℕ) → (rest : List A) × (gather g fs ≡ gather g (take i fs) ++ rest)
   gather_front g fs zero = (gather g fs, refl)
@@ -47,11 +64,11 @@ module _ {A : Type 0} where
       )
 
   -- and give no more than all
-  pub gather_room : (g : ℕ → LuminaireField → List A) (fs : List LuminaireField) (i : ℕ) (d : LuminaireField) → i < length fs
-      → length (gather g (take i fs)) + length (g i (get_or fs i d)) ≤ length (gather g fs)
-  gather_room g fs i d h =
+  pub gather_room : (g : ℕ → LuminaireField → List A) (fs : List LuminaireField) (i : ℕ) {f : LuminaireField} → slice_get fs i ≡ Some f
+      → length (gather g (take i fs)) + length (g i f) ≤ length (gather g fs)
+  gather_room g fs i e =
       let front = gather_front g fs (i + 1) in
-      rw (front.1, gather_next g fs i d h) (simp length-append (omega arith))
+      rw (front.1, gather_row g fs i e) (simp length-append (omega arith))
 
   -- where no field gives anything
   pub gather_nothing : (g : ℕ → LuminaireField → List A) (fs : List LuminaireField) → ((i : ℕ) (h : LuminaireField) → slice_get fs i ≡ Some h → g i h ≡ []) → gather g fs ≡ []

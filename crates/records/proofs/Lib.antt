@@ -26,7 +26,11 @@ pub mod Window
 pub mod Configurations
 pub mod Parts
 pub mod Cases
+pub mod Counting
+pub mod Counts
+pub mod Rows
 pub mod Room
+pub mod Making
 pub mod CutFields
 pub mod Claim
 pub mod CutRuns

@@ -3,7 +3,7 @@
 use Rattle.std.specs.Prelude.{None, Option, Some, slice_get}
 use mathlib.Core.Path.{◌≡◌, refl, sym, subst}
 use mathlib.Core.Bool.{true}
-use mathlib.Core.List.{List, [], ◌∷◌, ◌++◌, append-nil}
+use mathlib.Core.List.{List, [], ◌∷◌, ◌++◌}
 use Prim.Native.Nat.{ℕ, suc, ◌+◌, ◌≤◌}
 use native.Mathlib.Omega.{arith}
 use borrow.Author.Tests.{le-leb}
@@ -18,7 +18,7 @@ use Rattle.records.specs.Writes.{Write, Store, gather, bytes_for, written, write
 use Rattle.records.specs.Plan.{plan_checks, stores_of, EveryStoreInBank}
 use Rattle.records.proofs.Gathering.{each_flat, each_gather, each_map}
 use Rattle.records.proofs.Table.{by_field, table_rises, Sorted}
-use Rattle.records.proofs.Stages.{bytes_fit, stores_of_write, StageIn, stages_in_lem}
+use Rattle.records.proofs.Stages.{bytes_fit, other_stores, stores_of_write, StageIn, stages_in_lem}
 use Rattle.records.proofs.Accepted.{ends_by_lem}
 
 -- ---- the stores of a write
@@ -31,7 +31,7 @@ module _ (place : ℕ) (f : LuminaireField) where
   staged =
       record {
         text = λ x y ys t. rw (staged_text x y ys t);
-        other = λ bytes t. rw t (append-nil (single_bytes f.offset bytes));
+        other = λ bytes t. other_stores place f bytes t;
       }
 
   single_in : (o : ℕ) (bytes : List ℕ) → f.offset ≤ o → o + length bytes ≤ field_end f → Each (InField f) (single_bytes o bytes)

@@ -19,7 +19,7 @@ use Rattle.bank.specs.declared.refusal.Refusal.{Refusal}
 use Rattle.bank.specs.declared.refusal.Refusal.TheVariants.{SliceTooShort}
 use Rattle.bank.specs.Refusal.{Check, first_of}
 use Rattle.bank.specs.Fields.{luminaire_fields}
-use Rattle.bank.proofs.Checks.{refused_first, passed_first, none_first, none_second, passed, or_left, or_right}
+use Rattle.bank.proofs.Checks.{refused_first, passed_first, none_first, none_second, passed, or_left, or_right, was_answered}
 use Rattle.records.specs.declared.luminaire_write.Plan.{Plan}
 use Rattle.records.specs.Writes.{Store, number_for, wanted_number, bytes_for, stores_at, offsets_of, values_of}
 use Rattle.records.specs.Plan.{unknown_bits, unknown_field, field_checks, plan_checks, stores_of, short_slices, lay_checks, planned, offsets_after, values_after, Acceptable, PlanTakenExactly}
@@ -85,6 +85,10 @@ acceptable p text os vs e = go (first_of (lay_checks p text os vs)) refl
 
 pub passed_plan : (p : Plan) (text os vs : List ℕ) {count : ℕ} → planned p text os vs ≡ Ok count → first_of (plan_checks p text) ≡ None
 passed_plan p text os vs e = (acceptable p text os vs e).allowed
+
+pub planned_count : (p : Plan) (text os vs : List ℕ) {count : ℕ} → planned p text os vs ≡ Ok count → count ≡ length (stores_of p text)
+unfolding planned
+planned_count p text os vs e = (was_answered (lay_checks p text os vs) (length (stores_of p text)) e).1
 
 -- a plan that is refused leaves the slices as before
 left : (p : Plan) (text os vs : List ℕ) {r : Refusal} → planned p text os vs ≡ Err r → (offsets_after p text os vs ≡ os) × (values_after p text os vs ≡ vs)

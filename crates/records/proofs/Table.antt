@@ -21,7 +21,7 @@ use Rattle.bank.specs.declared.luminaire_write.LuminaireField.{LuminaireField}
 use Rattle.bank.specs.Fields.{luminaire_fields, field_end}
 use Rattle.records.specs.declared.luminaire_write.LuminaireNumbers.{LuminaireNumbers}
 use Rattle.records.specs.Writes.{gather, writes_at, planned_writes, write_stores, stores_at, plan_stores}
-use Rattle.records.proofs.Gathering.{flat_gather, gather_next, gather_room}
+use Rattle.records.proofs.Gathering.{flat_gather, gather_next}
 
 -- a test that all fields pass
 abbrev pub all_pass : (LuminaireField → Bool) → List LuminaireField → Bool
@@ -67,16 +67,15 @@ unfolding luminaire_fields
 table_length = refl
 
 -- in a loop over the table: what a turn's field gives comes behind what the fields before it give
-module _ {t : List LuminaireField} (is : t ≡ luminaire_fields) (i : ℕ) (d : LuminaireField) (h : i < length t) where
-  module _ {A : Type 0} (g : ℕ → LuminaireField → List A) where
-    pub next_field : gather g (take (i + 1) luminaire_fields) ≡ gather g (take i luminaire_fields) ++ g i (get_or t i d)
-    next_field = rw (← is) (gather_next g t i d h)
-
-    pub field_room : length (gather g (take i luminaire_fields)) + length (g i (get_or t i d)) ≤ length (gather g luminaire_fields)
-    field_room = rw (← is) (gather_room g t i d h)
+pub next_field : {t : List LuminaireField} → t ≡ luminaire_fields → (i : ℕ) (d : LuminaireField) → i < length t → {A : Type 0} (g : ℕ → LuminaireField → List A)
+    → gather g (take (i + 1) luminaire_fields) ≡ gather g (take i luminaire_fields) ++ g i (get_or t i d)
+next_field {t} is i d h g = rw (← is) (gather_next g t i d h)
 
 pub all_fields : {t : List LuminaireField} → t ≡ luminaire_fields → (i : ℕ) → length t ≤ i → take i luminaire_fields ≡ luminaire_fields
 all_fields is i h = take_all i luminaire_fields (rw (← is) h)
+
+pub all_rows : take 18 luminaire_fields ≡ luminaire_fields
+all_rows = all_fields refl 18 (omega (arith, table_length))
 
 -- all planned stores, field by field
 pub by_field : (n : LuminaireNumbers) (which : Option ℕ) (text : List ℕ) → plan_stores n which text ≡ gather (stores_at n which text) luminaire_fields

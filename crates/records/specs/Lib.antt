@@ -9,6 +9,7 @@ pub mod Identity
 pub mod BusUnit
 pub mod Writes
 pub mod Plan
+pub mod Count
 pub mod Cut
 pub mod Claim
 pub mod CutRun

@@ -14,7 +14,6 @@ use Rattle.records.specs.declared.luminaire_write.FieldWrite.{FieldWrite}
 use Rattle.records.specs.declared.luminaire_write.StagePart.{StagePart}
 use Rattle.records.specs.declared.luminaire_write.StagePart.TheVariants.{Terminator, Whole, Tail, Head}
 use Rattle.records.specs.declared.luminaire_write.WriteStage.{WriteStage}
-use Rattle.records.specs.declared.luminaire_write.Store as store
 
 -- "Mask bits 0 to 10 are the numbers in the order of `number_values` (001)"
 abbrev pub number_values : LuminaireNumbers → List ℕ
@@ -160,8 +159,9 @@ part_of Tail bytes = drop 1 bytes
 part_of Head bytes = take 1 bytes
 
 -- "a list of stores, each an offset and a value"
-abbrev pub Store : Type 0
-Store = store.Store
+pub record Store : Type 0 where
+  pub offset : ℕ
+  pub value : ℕ
 
 -- "each stage cut into single bytes from its first"
 abbrev pub single_bytes : ℕ → List ℕ → List Store

@@ -20,7 +20,7 @@ pub use bus_unit::{BusUnitConfiguration, EmergencyGearType, ImplementedParts};
 pub use fixed_text::FixedText;
 pub use identity::{DeviceIdentity, IdentityCause, IdentityRead};
 pub use luminaire_write::{
-    FieldWrite, LuminaireNumbers, Plan, StagePart, WriteStage, planned_writes,
+    FieldWrite, LuminaireNumbers, MOST_STORES, Plan, StagePart, WriteStage, planned_writes,
 };
 pub use memory_bank_parser::{
     ParsedBusUnit, ParsedCondition, ParsedEnergyBank, ParsedGearDiagnostics, ParsedLuminaire,

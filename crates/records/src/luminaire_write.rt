@@ -1,5 +1,5 @@
 // The plan of a write to bank 1: its writes, their stages and stores, and why it may be refused (luminaire_write.rs).
-ghost use Rattle.std.specs.Prelude.{◌≡◌, ◌+◌, ◌≤◌, length, take, Err, IfOk, IfSome, Ok, Some, option_map, slice_get};
+ghost use Rattle.std.specs.Prelude.{◌≡◌, ◌+◌, ◌≤◌, ◌<◌, ◌^◌, length, Err, IfSome, None, Ok, Some, option_map, slice_get};
 ghost use Rattle.std.proofs.lemmas.List.Edits.{sets};
 ghost use Rattle.std.specs.Bool.{then_some};
 ghost use Rattle.std.specs.Int.Count.{ones};
@@ -7,8 +7,10 @@ ghost use Rattle.bus.specs.Number.{low_bytes};
 ghost use Rattle.bus.specs.Value.{laid_into};
 ghost use Rattle.bank.specs.Refusal.{tested, checked};
 ghost use Rattle.bank.specs.Fields.{luminaire_fields};
-ghost use Rattle.records.specs.Writes.{number_values, number_for, wanted_number, is_for, terminated, bytes_for, written, planned_writes, field_writes, all_bytes, end_of, held_by, is_staged, stages_of, stages_at, part_of, single_bytes, write_stores, plan_stores, offsets_of, values_of, gather};
+ghost use Rattle.records.specs.Writes.{number_values, number_for, wanted_number, is_for, terminated, bytes_for, written, planned_writes, field_writes, all_bytes, end_of, held_by, is_staged, stages_of, stages_at, part_of, single_bytes, write_stores, stores_at, offsets_of, values_of, gather};
 ghost use Rattle.records.specs.Plan.{number_checks, write_text_checks, if_wanted, field_checks, index_over, plan_checks, stores_of, planned, offsets_after, values_after};
+ghost use Rattle.records.specs.Count.{counted_stores};
+ghost use Rattle.records.specs.Steps.{WantedAt, NoneWanted, number_stores, text_stores};
 
 use crate::fixed_list::FixedList;
 use crate::output::{put, put_all};
@@ -26,6 +28,14 @@ pub const TEXT_TERMINATOR: u8 = 0;
 
 // The bits of a patch mask that stand for a number.
 pub const PATCH_BITS: u16 = 0x07FF;
+
+// No plan has more stores: all numbers of format 5, and a text of 60 bytes that is emptied first.
+pub const MOST_STORES: usize = 80;
+
+// The bits of a patch mask for the ten numbers that come first in the table, and for the last.
+const FIRST_NUMBERS: u32 = 0x03FF;
+
+const LAMP_CURRENT: u32 = 0x0400;
 
 // How many fields there are: an index over the last is that of none.
 const FIELDS: usize = LUMINAIRE_FIELDS.len();
@@ -145,6 +155,41 @@ struct Row {
     ghost in_table: { slice_get luminaire_fields index ≡ Some field },
 }
 
+// The places of the table where something is wanted, a bit for each. The mask has the ten numbers behind the layout id at its
+// lowest bits, and the lamp current at the next.
+fn wanted_places(numbers: LuminaireNumbers, text_field: Option<usize>) -> u32
+    ensures few { result < 2 ^ 18 }
+    ensures places { WantedAt numbers text_field result }
+{
+    let mask = numbers.patch_mask as u32;
+    let places = (mask & FIRST_NUMBERS) << 1 | (mask & LAMP_CURRENT) << 6;
+    let Some(index) = text_field else {
+        return places;
+    };
+    if FIELDS <= index {
+        return places;
+    }
+    places | 1 << index
+}
+
+// The first row from a place on where something is wanted. A plan goes from one to the next, and does not look at the others.
+fn next_row(places: u32, from: usize) -> Option<Row>
+    requires few { places < 2 ^ 18 }
+    requires within { from ≤ 18 }
+    ensures some { IfSome result (λ row. (from ≤ row.index) × NoneWanted places from row.index) }
+    ensures none { result ≡ None → NoneWanted places from 18 }
+{
+    let rest = places >> from;
+    if rest == 0 {
+        return None;
+    }
+    let index = from + rest.trailing_zeros() as usize;
+    Some(Row {
+        index,
+        field: luminaire_fields()[index],
+    })
+}
+
 // DiiA 251 §9.2.5: whether a write of so many bytes is a text that could be read half written.
 fn is_staged(field: LuminaireField, len: usize) -> bool
     ensures { result ≡ is_staged field.kind len }
@@ -242,6 +287,16 @@ impl FieldWrite {
     }
 }
 
+// How many stores the write of a text has: a 00 stands behind one that is shorter than its field, and one of two or more
+// bytes is emptied first.
+fn text_stores(field: LuminaireField, len: usize) -> usize
+    requires { len ≤ field.len }
+    ensures { result ≡ text_stores field len }
+{
+    let bytes = usize::min(field.len as usize, len + 1);
+    bytes + is_staged(field, bytes) as usize
+}
+
 // The bytes of a write: no field has more than 60.
 type WriteBytes = FixedList<u8, 60>;
 
@@ -276,51 +331,38 @@ fn is_for(text_field: Option<usize>, index: usize) -> bool
     text_field == Some(index)
 }
 
-// A store: its offset in the bank, and its value.
-#[derive(Clone, Copy)]
-pub struct Store {
-    pub offset: u8,
-    pub value: u8,
-}
-
-// Room for the stores of a plan: none has more than 203.
-pub(crate) type StoreRoom = [Store; 256];
-
-pub(crate) const NO_STORES: StoreRoom = [Store {
-    offset: 0,
-    value: 0,
-}; 256];
-
 // Lays the stores of a stage from an index on, one for each byte, and answers the index behind them.
-fn lay_stage(offset: u8, bytes: &[u8], stores: &mut [Store], from: usize) -> usize
+fn lay_stage(offset: u8, bytes: &[u8], offsets: &mut [u8], values: &mut [u8], from: usize) -> usize
     requires in_bank { offset + length bytes.now ≤ 256 }
-    requires room { from + length bytes.now ≤ length stores.old }
+    requires offsets_room { from + length bytes.now ≤ length offsets.old }
+    requires values_room { from + length bytes.now ≤ length values.old }
     ensures behind { result ≡ from + length bytes.now }
-    ensures laid { stores.new ≡ sets stores.old from (single_bytes offset bytes.now) }
+    ensures offsets { offsets.new ≡ sets offsets.old from (offsets_of (single_bytes offset bytes.now)) }
+    ensures values { values.new ≡ sets values.old from (values_of (single_bytes offset bytes.now)) }
 {
     for (i, byte) in bytes.iter().enumerate() {
-        stores[from + i] = Store {
-            offset: offset + i as u8,
-            value: *byte,
-        };
+        offsets[from + i] = offset + i as u8;
+        values[from + i] = *byte;
     }
     from + bytes.len()
 }
 
 // The same for the stores of the write to a field, in the order of its stages.
-fn lay_write(row: Row, bytes: &[u8], stores: &mut [Store], from: usize) -> usize
+fn lay_write(row: Row, bytes: &[u8], offsets: &mut [u8], values: &mut [u8], from: usize) -> usize
     requires fits { length bytes.now ≤ row.field.len }
-    requires room { from + length (write_stores (written row.index row.field bytes.now)) ≤ length stores.old }
+    requires offsets_room { from + length (write_stores (written row.index row.field bytes.now)) ≤ length offsets.old }
+    requires values_room { from + length (write_stores (written row.index row.field bytes.now)) ≤ length values.old }
     ensures behind { result ≡ from + length (write_stores (written row.index row.field bytes.now)) }
-    ensures laid { stores.new ≡ sets stores.old from (write_stores (written row.index row.field bytes.now)) }
+    ensures offsets { offsets.new ≡ sets offsets.old from (offsets_of (write_stores (written row.index row.field bytes.now))) }
+    ensures values { values.new ≡ sets values.old from (values_of (write_stores (written row.index row.field bytes.now))) }
 {
     let start = row.field.offset;
     if !is_staged(row.field, bytes.len()) {
-        return lay_stage(start, bytes, stores, from);
+        return lay_stage(start, bytes, offsets, values, from);
     }
-    let emptied = lay_stage(start, &[TEXT_TERMINATOR], stores, from);
-    let tailed = lay_stage(start + 1, &bytes[1..], stores, emptied);
-    lay_stage(start, &bytes[..1], stores, tailed)
+    let emptied = lay_stage(start, &[TEXT_TERMINATOR], offsets, values, from);
+    let tailed = lay_stage(start + 1, &bytes[1..], offsets, values, emptied);
+    lay_stage(start, &bytes[..1], offsets, values, tailed)
 }
 
 // What is to be written: the numbers, and at most one text, whose field is told by its index.
@@ -351,6 +393,32 @@ impl<'a> Content<'a> {
                 true
             }
             FieldKind::LayoutId | FieldKind::Text(_) => false,
+        }
+    }
+
+    // Lays the stores of the write to a field from an index on, where there is one, and answers the index behind them.
+    fn lay_field(&self, row: Row, offsets: &mut [u8], values: &mut [u8], from: usize) -> usize
+        requires offsets_room { from + length (stores_at self.now.numbers self.now.text_field self.now.text.now row.index row.field) ≤ length offsets.old }
+        requires values_room { from + length (stores_at self.now.numbers self.now.text_field self.now.text.now row.index row.field) ≤ length values.old }
+        ensures behind { result ≡ from + length (stores_at self.now.numbers self.now.text_field self.now.text.now row.index row.field) }
+        ensures offsets { offsets.new ≡ sets offsets.old from (offsets_of (stores_at self.now.numbers self.now.text_field self.now.text.now row.index row.field)) }
+        ensures values { values.new ≡ sets values.old from (values_of (stores_at self.now.numbers self.now.text_field self.now.text.now row.index row.field)) }
+    {
+        match row.field.kind {
+            FieldKind::Number { .. } => {
+                let Some(value) = self.numbers.of_field(row.field) else {
+                    return from;
+                };
+                let wide = value.to_be_bytes();
+                let bytes = &wide[4 - row.field.len as usize..];
+                lay_stage(row.field.offset, bytes, offsets, values, from)
+            }
+            FieldKind::Text(_) if is_for(self.text_field, row.index) => {
+                let mut bytes = FixedList::new(0);
+                set_text(&mut bytes, row.field, self.text);
+                lay_write(row, bytes.as_slice(), offsets, values, from)
+            }
+            FieldKind::LayoutId | FieldKind::Text(_) => from,
         }
     }
 }
@@ -396,19 +464,6 @@ pub fn planned_writes(
     count
 }
 
-// Lays stores into the two byte slices that 01 has a caller lend, the offsets and the values.
-fn lay_stores(stores: &[Store], offsets: &mut [u8], values: &mut [u8])
-    requires offsets_room { length stores.now ≤ length offsets.old }
-    requires values_room { length stores.now ≤ length values.old }
-    ensures offsets { offsets.new ≡ laid_into (offsets_of stores.now) offsets.old }
-    ensures values { values.new ≡ laid_into (values_of stores.now) values.old }
-{
-    for (i, store) in stores.iter().enumerate() {
-        offsets[i] = store.offset;
-        values[i] = store.value;
-    }
-}
-
 // Whether a number may be written to a field.
 fn check_number(layout: Bank1Layout, field: LuminaireField, value: u32) -> Result<(), Refusal>
     ensures { result ≡ tested (number_checks layout field value) }
@@ -438,52 +493,41 @@ pub struct Plan {
 }
 
 impl Plan {
-    // Whether the number that is wanted of a field may be written.
-    fn check_wanted(self, field: LuminaireField) -> Result<(), Refusal>
-        ensures { result ≡ tested (if_wanted (wanted_number self.numbers field.kind) (number_checks self.layout field)) }
+    // How many stores the number that is wanted of a field has, if it may be written.
+    fn count_number(self, field: LuminaireField) -> Result<usize, Refusal>
+        ensures { result ≡ checked (if_wanted (wanted_number self.numbers field.kind) (number_checks self.layout field)) Err (Ok (number_stores self.numbers field)) }
     {
-        match self.numbers.of_field(field) {
-            Some(value) => check_number(self.layout, field, value),
-            None => Ok(()),
-        }
-    }
-
-    // Whether what is wanted of a field may be written, a number before a text.
-    fn check_field(self, row: Row, text: &[u8]) -> Result<(), Refusal>
-        ensures { result ≡ tested (field_checks self text.now row.index row.field) }
-    {
-        self.check_wanted(row.field)?;
-        if !is_for(self.text_field, row.index) {
-            return Ok(());
-        }
-        check_text(self.layout, row.field, text)
-    }
-
-    // Checks what is wanted of each field, by rising offset, and lays its stores, in one turn; answers how many there are.
-    // What is laid before a refusal stands for nothing.
-    fn lay_fields(self, text: &[u8], stores: &mut StoreRoom) -> Result<usize, Refusal>
-        ensures count { result ≡ checked (gather (field_checks self text.now) luminaire_fields) Err (Ok (length (stores_of self text.now))) }
-        ensures laid { IfOk result (λ _. stores.new ≡ laid_into (stores_of self text.now) stores.old) }
-    {
-        let content = Content {
-            numbers: self.numbers,
-            text_field: self.text_field,
-            text,
+        let Some(value) = self.numbers.of_field(field) else {
+            return Ok(0);
         };
-        let mut bytes = FixedList::new(0);
-        let mut laid = 0;
-        let table = luminaire_fields();
-        for (index, field) in table.iter().enumerate() {
-            let row = Row {
-                index,
-                field: *field,
-            };
-            self.check_field(row, text)?;
-            if content.set_bytes(row, &mut bytes) {
-                laid = lay_write(row, bytes.as_slice(), stores, laid);
-            }
+        check_number(self.layout, field, value)?;
+        Ok(field.len as usize)
+    }
+
+    // How many stores the write to a field has, if what is wanted of it may be written, a number before a text.
+    fn count_field(self, row: Row, text: &[u8]) -> Result<usize, Refusal>
+        ensures { result ≡ checked (field_checks self text.now row.index row.field) Err (Ok (length (stores_at self.numbers self.text_field text.now row.index row.field))) }
+    {
+        let number = self.count_number(row.field)?;
+        if !is_for(self.text_field, row.index) {
+            return Ok(number);
         }
-        Ok(laid)
+        check_text(self.layout, row.field, text)?;
+        Ok(text_stores(row.field, text.len()))
+    }
+
+    // The same for all fields, by rising offset.
+    fn count_fields(self, text: &[u8]) -> Result<usize, Refusal>
+        ensures { result ≡ checked (gather (field_checks self text.now) luminaire_fields) Err (Ok (length (stores_of self text.now))) }
+    {
+        let places = wanted_places(self.numbers, self.text_field);
+        let mut count = 0;
+        let mut from = 0;
+        while let Some(row) = next_row(places, from) {
+            count += self.count_field(row, text)?;
+            from = row.index + 1;
+        }
+        Ok(count)
     }
 
     fn has_unknown_field(self) -> bool
@@ -492,11 +536,9 @@ impl Plan {
         self.text_field.is_some_and(|index| FIELDS <= index)
     }
 
-    // The same for the whole plan, whatever slices are lent for its stores. The room is lent: handed back, it would be copied.
-    pub(crate) fn lay(self, text: &[u8], stores: &mut StoreRoom) -> Result<usize, Refusal>
-        ensures count { result ≡ checked (plan_checks self text.now) Err (Ok (length (stores_of self text.now))) }
-        ensures few { IfOk result (λ count. count ≤ 256) }
-        ensures laid { IfOk result (λ count. take count stores.new ≡ stores_of self text.now) }
+    // How many stores the plan has, without laying any, or why it is refused.
+    pub fn count(self, text: &[u8]) -> Result<usize, Refusal>
+        ensures { result ≡ counted_stores self text.now }
     {
         if PATCH_BITS < self.numbers.patch_mask {
             return Err(Refusal::UnknownMaskBits);
@@ -504,7 +546,28 @@ impl Plan {
         if self.has_unknown_field() {
             return Err(Refusal::UnknownField);
         }
-        self.lay_fields(text, stores)
+        self.count_fields(text)
+    }
+
+    // Lays the stores, by rising offset of their fields.
+    fn lay(self, text: &[u8], offsets: &mut [u8], values: &mut [u8])
+        requires offsets_room { length (stores_of self text.now) ≤ length offsets.old }
+        requires values_room { length (stores_of self text.now) ≤ length values.old }
+        ensures offsets { offsets.new ≡ laid_into (offsets_of (stores_of self text.now)) offsets.old }
+        ensures values { values.new ≡ laid_into (values_of (stores_of self text.now)) values.old }
+    {
+        let content = Content {
+            numbers: self.numbers,
+            text_field: self.text_field,
+            text,
+        };
+        let places = wanted_places(self.numbers, self.text_field);
+        let mut laid = 0;
+        let mut from = 0;
+        while let Some(row) = next_row(places, from) {
+            laid = content.lay_field(row, offsets, values, laid);
+            from = row.index + 1;
+        }
     }
 
     // Lays the stores of the plan, and answers how many there are. By 01 two byte slices are lent, one for the offsets and
@@ -519,12 +582,11 @@ impl Plan {
         ensures offsets { offsets.new ≡ offsets_after self text.now offsets.old values.old }
         ensures values { values.new ≡ values_after self text.now offsets.old values.old }
     {
-        let mut stores = NO_STORES;
-        let count = self.lay(text, &mut stores)?;
+        let count = self.count(text)?;
         if offsets.len() < count || values.len() < count {
             return Err(Refusal::SliceTooShort);
         }
-        lay_stores(&stores[..count], offsets, values);
+        self.lay(text, offsets, values);
         Ok(count)
     }
 }

@@ -26,12 +26,12 @@ pub counted_length : (word : List ℕ) (n : ℕ) → length (counted word n) ≡
 counted_length word n = length-append word (decimal n ++ (0x0A ∷ [])) ∙ ap (λ (k : ℕ). length word + k) (length-append (decimal n) (0x0A ∷ []))
 
 -- what is put behind a text that has room for it
-pub joined : (text more : List ℕ) {after : List ℕ} → after ≡ take 4096 (text ++ more) → length text + length more ≤ 4096 → after ≡ text ++ more
-joined text more e h = e ∙ take_all 4096 (text ++ more) (rw length-append h)
+pub joined : (text more : List ℕ) {after : List ℕ} → after ≡ take 492 (text ++ more) → length text + length more ≤ 492 → after ≡ text ++ more
+joined text more e h = e ∙ take_all 492 (text ++ more) (rw length-append h)
 
 -- and into a text that is empty
-pub begun : (more : List ℕ) {empty after : List ℕ} → empty ≡ [] → after ≡ take 4096 (empty ++ more) → length more ≤ 4096 → after ≡ more
-begun more e f h = f ∙ ap (λ (l : List ℕ). take 4096 (l ++ more)) e ∙ take_all 4096 more h
+pub begun : (more : List ℕ) {empty after : List ℕ} → empty ≡ [] → after ≡ take 492 (empty ++ more) → length more ≤ 492 → after ≡ more
+begun more e f h = f ∙ ap (λ (l : List ℕ). take 492 (l ++ more)) e ∙ take_all 492 more h
 
 pub no_lines : (os vs : List ℕ) → (length os ≡ 0) ⊎ (length vs ≡ 0) → lines os vs ≡ []
 no_lines [] vs e = refl

@@ -4,20 +4,20 @@ ghost use Rattle.stores.specs.Listing.{digit, decimal, counted, line, plan_text,
 ghost use Rattle.stores.specs.Steps.{lines};
 
 use crate::file::{HEAD_LEN, parse};
-use records::Plan;
 use records::fixed_list::FixedList;
 use records::output::hex_digits;
-
-// Room for what is printed for any file.
-const TEXT_LEN: usize = 4096;
-
-pub(crate) type Text = FixedList<u8, TEXT_LEN>;
-
-// Room for the stores of any plan.
-const STORES: usize = 256;
+use records::{MOST_STORES, Plan};
 
 // The bytes of a store's line.
 const LINE_LEN: usize = 6;
+
+// At most so many are in a line that counts: a word of eight bytes, three digits and the line's end.
+const COUNTED_LEN: usize = 12;
+
+// Room for what is printed for any file.
+const TEXT_LEN: usize = COUNTED_LEN + MOST_STORES * LINE_LEN;
+
+pub(crate) type Text = FixedList<u8, TEXT_LEN>;
 
 const BAD_FILE: &[u8] = b"bad file\n";
 
@@ -36,7 +36,7 @@ fn decimal_digit(n: usize) -> u8
 // Puts a number in decimal behind a text, and as the others here asks for the room that it takes. `write!` answers a result,
 // and here nothing can fail.
 fn put_decimal(text: &mut Text, n: usize)
-    requires { (n < 1000) × (length text.old + 3 ≤ 4096) }
+    requires { (n < 1000) × (length text.old + 3 ≤ 492) }
     ensures { text.new ≡ text.old ++ decimal n }
 {
     if n < 10 {
@@ -54,7 +54,7 @@ fn put_decimal(text: &mut Text, n: usize)
 
 // Puts a line of a word and a number behind a text.
 fn put_counted(text: &mut Text, word: &[u8], n: usize)
-    requires { (n < 1000) × (length text.old + length word.now + 4 ≤ 4096) }
+    requires { (n < 1000) × (length text.old + length word.now + 4 ≤ 492) }
     ensures { text.new ≡ text.old ++ counted word.now n }
 {
     text.fill_up(word);
@@ -73,7 +73,7 @@ fn line_of(offset: u8, value: u8) -> [u8; LINE_LEN]
 
 // Puts a line for each store, as `Plan::stores` lays them, behind a text.
 fn put_lines(text: &mut Text, offsets: &[u8], values: &[u8])
-    requires { length text.old + 6 * length offsets.now ≤ 4096 }
+    requires { length text.old + 6 * length offsets.now ≤ 492 }
     ensures { text.new ≡ text.old ++ lines offsets.now values.now }
 {
     for (offset, value) in offsets.iter().zip(values) {
@@ -86,8 +86,8 @@ fn put_plan(listing: &mut Text, plan: Plan, text: &[u8])
     requires { listing.old ≡ [] }
     ensures { listing.new ≡ plan_text plan text.now }
 {
-    let mut offsets = [0; STORES];
-    let mut values = [0; STORES];
+    let mut offsets = [0; MOST_STORES];
+    let mut values = [0; MOST_STORES];
     match plan.stores(text, &mut offsets, &mut values) {
         Ok(count) => {
             put_counted(listing, STORES_WORD, count);

@@ -8,8 +8,8 @@ use super::texts::{check_accepted, foreign_texts, TELLING_BYTES};
 use super::wanted::{random_wanted, telling_u32s, text_fields, texts_of_lengths, Numbers, Wanted, ALL};
 use super::writes::random_more;
 use super::{in_telling_formats, index_of, indices, random_layout, telling_layouts};
-use crate::function::{Scale, Source};
-use crate::line::Output;
+use crate::function::{Row, Scale, Source};
+use crate::line::{Line, Output};
 use crate::refusal::Refusal;
 use crate::rng::Rng;
 
@@ -78,7 +78,19 @@ pub fn planned((layout, wanted, mut offsets, mut values): PlanCase) -> (Result<u
     (answer, Output(offsets), Output(values))
 }
 
-type Asked = (Bank1Layout, Wanted);
+pub type Asked = (Bank1Layout, Wanted);
+
+pub const STORE_COUNT: Row<Asked, Result<usize, Refusal>> = Row::new(0x46, "Plan::count", count, telling_counts);
+
+/// The length of the list that a plan lays.
+fn count((layout, wanted): Asked) -> Result<usize, Refusal> {
+    planned_stores(&layout, &wanted).map(|stores| stores.len())
+}
+
+/// Asks for the count of a plan's stores, whatever slices it is lent.
+pub fn ask_count((layout, wanted, ..): &PlanCase, request: &mut Line) {
+    STORE_COUNT.put_request(&(*layout, wanted.clone()), request);
+}
 
 /// Every field of format 5 may be written.
 const ALL_WRITABLE: Bank1Layout =
@@ -198,6 +210,34 @@ fn in_order() -> Vec<Asked> {
 pub fn longest() -> Wanted {
     let values = [24, 30, 50, 5, 220, 240, 0x01_2345, 80, 4_000, 6, 350];
     Wanted { numbers: Numbers { mask: ALL, values }, ..Wanted::text(12, &[b'A'; 60]) }
+}
+
+/// Formats 3 and 4 lack the lamp current, which is the last number.
+const ALL_BUT_LAMP_CURRENT: u16 = ALL >> 1;
+
+/// No plan has more stores in formats 3 and 4. The distribution type is one that both have.
+fn longest_before_format_5() -> Wanted {
+    let distribution_type = &LUMINAIRE_FIELDS[10];
+    let numbers = longest().numbers.with(distribution_type, 5);
+    Wanted { numbers: Numbers { mask: ALL_BUT_LAMP_CURRENT, ..numbers }, ..longest() }
+}
+
+/// The longest plans, short ones, and each refusal but that of slices.
+fn telling_counts(_: &mut Source) -> Vec<Asked> {
+    let mut asked = vec![
+        (in_format(3), longest_before_format_5()),
+        (in_format(4), longest_before_format_5()),
+        (in_format(4), longest()),
+        (in_format(5), longest()),
+    ];
+    let texts: [(usize, &[u8]); 6] =
+        [(11, b""), (12, b"A"), (12, b"AB"), (12, b"A\x7FB"), (12, &[b'A'; 61]), (17, b"ABCDEFGH")];
+    asked.extend(texts.map(|(index, text)| (ALL_WRITABLE, Wanted::text(index, text))));
+    for layout in [ALL_WRITABLE, Bank1Layout::default(), Bank1Layout::from_header(&[])] {
+        asked.extend([Wanted::NOTHING, wanting(&LUMINAIRE_FIELDS[1])].map(|wanted| (layout, wanted)));
+    }
+    asked.extend(in_order());
+    asked
 }
 
 fn around_slices() -> Vec<Asked> {

@@ -10,5 +10,5 @@ invariant-loop-offset l =
     let left = l.offset-iterator in
     record {
       same : l.text ++ lines left.a.rest.now left.b.rest.now ≡ l.initial.text ++ lines l.offsets l.values;
-      room : length l.text + 6 * length left.a.rest.now ≤ 4096;
+      room : length l.text + 6 * length left.a.rest.now ≤ 492;
     }
