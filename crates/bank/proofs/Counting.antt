@@ -320,5 +320,4 @@ chunks_refused_as_run bank len mode budget =
           refuses bank len mode budget
           (by_want chunk new budget bytes buffer
           (was_refused (accept_checks chunk new budget bytes buffer) _ (rw (started bank len mode s) at e)) room exact);
-      counted = λ {out} {w} s e. counts bank len mode budget (was_answered (want_checks new budget) _ (rw (started bank len mode s) at e)).0;
     }

@@ -11,7 +11,7 @@ use Rattle.bank.specs.Chunk.{ChunkRule, chunk_in}
 use Rattle.bank.specs.ReadOut.{fresh, advanced, rule_of, is_done, want_checks, starting, wanted_len, wanting, accepting}
 use Rattle.bank.specs.Calls.{Call, want, accept, State, state_of, step, after, accepted}
 
--- the lengths of the chunks that a read-out still wants, at one budget; so many at most
+-- the lengths of the chunks that a read-out still wants, at one budget; the first number is the most that are listed
 unfoldable pub chunk_lengths : ChunkRule → ℕ → ReadOut → ℕ → List ℕ
 chunk_lengths chunk zero r budget = []
 chunk_lengths chunk (suc most) r budget =
@@ -76,8 +76,6 @@ module _ (bank len : ℕ) (mode : ChunkMode) (budget : ℕ) where
     pub not_accepted : {out : ReadOut} {r : Refusal} (bytes buffer : List ℕ) → starting bank len mode ≡ Ok out →
         accepting (rule_of out) out budget bytes buffer ≡ Err r → (r ≡ SliceTooShort → ⊥) → (r ≡ WrongChunkLength → ⊥) →
         counted_chunks bank len mode budget ≡ Err r
-    pub counted : {out : ReadOut} {w : Wanted} → starting bank len mode ≡ Ok out → wanting (rule_of out) out budget ≡ Ok w →
-        counted_chunks bank len mode budget ≡ Ok (length (chunks_of bank len mode budget))
 
 abbrev pub ChunksAsRun : Type 0
 ChunksAsRun =

@@ -252,7 +252,7 @@ fn is_printable(byte: u8) -> bool
     matches!(byte, b' '..=b'~')
 }
 
-// Without a way out of the loop many bytes are tested at once.
+// A loop that never ends early is compiled to test many bytes at once.
 fn all_printable(text: &[u8]) -> bool
     ensures { result ≡ printable text.now }
 {
@@ -263,7 +263,7 @@ fn all_printable(text: &[u8]) -> bool
     all
 }
 
-// Fewer bytes are searched in the time that it takes to test them at once.
+// A text of fewer bytes is searched as fast as it is tested.
 const AT_ONCE: usize = 8;
 
 // The index of the first byte that is not printable.

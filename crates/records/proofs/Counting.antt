@@ -210,6 +210,7 @@ at_most_78_and_80 =
       in_format_3 = refl;
       in_format_4 = refl;
       in_format_5 = refl;
+      room = refl;
       reached = reached;
       in_none = λ p text e s. in_none p text s e;
     }

@@ -27,6 +27,9 @@ module _ {A : Type 0} where
       ap (sets l at) (sym (take-append-drop i xs)) ∙ sets_append l at (take i xs) (drop i xs) ∙ ap (λ (n : ℕ). sets (sets l at (take i xs)) (at + n) (drop i xs)) (length-take-le i xs k) in
       sym (all ∙ sets_behind (sets l at (take i xs)) (at + i) (drop i xs) (rw length-sets h))
 
+pub length_laid : {A : Type 0} (xs out : List A) → length (laid_into xs out) ≡ length out
+length_laid xs out = rw (sym (sets_laid xs out)) (length-sets out 0 xs)
+
 -- further elements behind those that are laid
 pub laid_further : {A : Type 0} (xs ys out : List A) → sets (laid_into xs out) (length xs) ys ≡ laid_into (xs ++ ys) out
 laid_further {A} xs ys out =

@@ -27,10 +27,9 @@ pub mod Configurations
 pub mod Parts
 pub mod Cases
 pub mod Counting
-pub mod Counts
+pub mod Beforehand
 pub mod Rows
 pub mod Room
-pub mod Making
 pub mod CutFields
 pub mod Claim
 pub mod CutRuns

@@ -3,7 +3,7 @@
 use Rattle.std.specs.Prelude.{is_some, Err, None, Ok, Option, Result, Some, slice_get}
 use mathlib.Core.Path.{◌≡◌, refl, sym, ap, ◌∙◌}
 use mathlib.Core.Bool.{false, ◌||◌, true≢false}
-use mathlib.Core.List.{List, ◌++◌, map}
+use mathlib.Core.List.{List, ◌++◌}
 use Prim.Native.Nat.{ℕ, ◌+◌, ◌≤◌, ◌<◌}
 use native.Mathlib.Omega.{arith}
 use lib.Seq.{sets}
@@ -21,10 +21,10 @@ use Rattle.records.specs.Writes.{wanted_number, is_for, gather, Store, offsets_o
 use Rattle.records.specs.Plan.{field_checks, plan_checks, stores_of, lay_checks, planned, offsets_after, values_after}
 use Rattle.records.specs.Steps.{WantedAt, NoneWanted}
 use Rattle.records.proofs.Gathering.{gather_row, gather_room, gather_gap}
-use Rattle.records.proofs.Laying.{front_laid}
+use Rattle.records.proofs.Laying.{front_laid, laid_further}
 use Rattle.records.proofs.Table.{by_field, all_rows, within_bank}
 use Rattle.records.proofs.Stages.{stores_few}
-use Rattle.records.proofs.Stores.{offsets_count, values_count, members_further}
+use Rattle.records.proofs.Stores.{offsets_count, values_count}
 use Rattle.records.proofs.Refusals.{field_passed}
 use Rattle.records.proofs.Counting.{none_wanted, at_most_80}
 use Rattle.records.proofs.Plans.{plan_accepted}
@@ -47,8 +47,8 @@ module _ (m : LuminaireNumbers) (which : Option ℕ) (text : List ℕ) (i : ℕ)
   pub own_room : length (front m which text i) + length own ≤ length (plan_stores m which text)
   own_room = omega (arith, gather_room (stores_at m which text) luminaire_fields i e, ap length (by_field m which text))
 
-  pub own_laid : (member : Store → ℕ) (out : List ℕ) → sets (laid_into (map member (front m which text i)) out) (length (front m which text i)) (map member own) ≡ laid_into (map member (front m which text (i + 1))) out
-  own_laid member out = members_further member (front m which text i) own out ∙ ap (λ (ss : List Store). laid_into (map member ss) out) (sym next)
+  pub own_laid : (out : List Store) → sets (laid_into (front m which text i) out) (length (front m which text i)) own ≡ laid_into (front m which text (i + 1)) out
+  own_laid out = laid_further (front m which text i) own out ∙ ap (λ (ss : List Store). laid_into ss out) (sym next)
 
 pub all_front : (m : LuminaireNumbers) (which : Option ℕ) (text : List ℕ) → front m which text 18 ≡ plan_stores m which text
 all_front m which text = ap (gather (stores_at m which text)) all_rows ∙ sym (by_field m which text)
@@ -98,7 +98,7 @@ own_counted p text i {f} e before counted =
     }
 
 -- the first so many of a slice that they were laid into
-front_is : {A : Type 0} (xs out : List A) {n : ℕ} → length xs ≡ n → n ≤ length out → take n (laid_into xs out) ≡ xs
+pub front_is : {A : Type 0} (xs out : List A) {n : ℕ} → length xs ≡ n → n ≤ length out → take n (laid_into xs out) ≡ xs
 front_is {A} xs out {n} e h =
     ap (λ (k : ℕ). take k (laid_into xs out)) (sym e)
     ∙ ap (take (length xs)) (sym (sets_laid xs out))

@@ -219,13 +219,18 @@ module _ (places from : ℕ) where
     lowest : (count_trailing_zeros 32 rest < 32) × (bit rest (count_trailing_zeros 32 rest) ≡ 1) × ((i : ℕ) → i < count_trailing_zeros 32 rest → bit rest i ≡ 0)
     lowest = bit_at-trailing_zeros w32 rest (omega (arith, some)) (omega (arith, div-le_self places (2 ^ from)))
 
+    next_is : bit places next ≡ 1
+    next_is =
+        let back : next - from ≡ count_trailing_zeros 32 rest = omega arith in
+        sym (rest_at next (omega arith)) ∙ ap (bit rest) back ∙ lowest.1
+
+    pub next_set : is_set places next ≡ true
+    next_set = eq-eqb (bit places next) 1 next_is
+
     next_within : next < 18
     next_within =
         by_test (leb 18 next)
-        (λ t.
-        let back : next - from ≡ count_trailing_zeros 32 rest = omega arith in
-        let z : ⊥ = omega (arith, sym lowest.1 ∙ ap (bit rest) (sym back) ∙ rest_at next (omega arith) ∙ bit_at_above places 18 next few (leb-true 18 next t)) in
-        absurd z)
+        (λ t. let z : ⊥ = omega (arith, sym next_is ∙ bit_at_above places 18 next few (leb-true 18 next t)) in absurd z)
         (λ t. leb-false 18 next t)
 
     pub next_in : {t : List LuminaireField} → t ≡ luminaire_fields → next < length t

@@ -6,14 +6,13 @@ use Rattle.std.specs.Prelude.{None, Option, Some, option_map}
 use mathlib.Core.Path.{◌≡◌, refl, sym, ap, ◌∙◌}
 use mathlib.Core.Bool.{Bool, true, false}
 use Rattle.std.specs.Bool.{then_some}
-use mathlib.Core.List.{List, map, [], ◌∷◌, ◌++◌, append-nil}
+use mathlib.Core.List.{List, [], ◌∷◌, ◌++◌, append-nil}
 use Prim.Native.Nat.{ℕ, zero, suc, ◌+◌, ◌-◌, ◌≤◌, ◌<◌}
 use native.Mathlib.Nat.{div-one}
 use native.Mathlib.Omega.{arith}
 use borrow.Author.Tests.{leb-true}
 use lib.Dec.{leb}
-use lib.ListN.{set, length, take, drop, length-append, length-map, length-take, length-drop}
-use Rattle.std.proofs.lemmas.List.{map-append}
+use lib.ListN.{set, length, take, drop, length-append, length-take, length-drop}
 use lib.Seq.{sets, take_all, take-append-le}
 use Rattle.bus.specs.Number.{low_bytes}
 use Rattle.bus.proofs.Tests.{by_test, second_true}
@@ -115,17 +114,16 @@ module _ (place : ℕ) (f : LuminaireField) (bytes : List ℕ) where
   pub other_stores : is_staged f.kind (length bytes) ≡ false → write_stores (written place f bytes) ≡ single_bytes f.offset bytes
   other_stores t = rw t (append-nil (single_bytes f.offset bytes))
 
-  -- the offsets, or the values, laid from an index on, stage by stage
-  pub staged_laid : is_staged f.kind (length bytes) ≡ true → (member : Store → ℕ) (l : List ℕ) (i : ℕ)
-      → sets l i (map member (write_stores (written place f bytes)))
-      ≡ sets (sets (sets l i (map member (single_bytes f.offset (0 ∷ [])))) (i + 1) (map member (single_bytes (f.offset + 1) (drop 1 bytes)))) (i + 1 + length (drop 1 bytes)) (map member (single_bytes f.offset (take 1 bytes)))
-  staged_laid t member l i =
+  -- laid from an index on, stage by stage
+  pub staged_laid : is_staged f.kind (length bytes) ≡ true → (l : List Store) (i : ℕ)
+      → sets l i (write_stores (written place f bytes))
+      ≡ sets (sets (sets l i (single_bytes f.offset (0 ∷ []))) (i + 1) (single_bytes (f.offset + 1) (drop 1 bytes))) (i + 1 + length (drop 1 bytes)) (single_bytes f.offset (take 1 bytes))
+  staged_laid t l i =
       let tail = single_bytes (f.offset + 1) (drop 1 bytes) in
       let head = single_bytes f.offset (take 1 bytes) in
-      let emptied = set l i (member (record { offset = f.offset; value = 0 })) in
       let behind : suc i ≡ i + 1 = omega arith in
-      rw (t, append-nil head, map-append member tail head)
-      (sets_append emptied (suc i) (map member tail) (map member head) ∙ rw (length-map, single_count (f.offset + 1) (drop 1 bytes), behind))
+      rw (t, append-nil head)
+      (sets_append (set l i (record { offset = f.offset; value = 0 })) (suc i) tail head ∙ rw (single_count (f.offset + 1) (drop 1 bytes), behind))
 
   write_few : length (write_stores (written place f bytes)) ≤ length bytes + 1
   write_few =

@@ -2,17 +2,14 @@
 -- Assumes nothing.
 use mathlib.Core.Path.{◌≡◌, sym, ap, ◌∙◌}
 use mathlib.Core.List.{map, List, [], ◌∷◌, ◌++◌}
-use Prim.Native.Nat.{ℕ, zero, suc, ◌+◌, ◌<◌}
+use Prim.Native.Nat.{ℕ, zero, suc, ◌+◌, ◌≤◌, ◌<◌}
 use native.Mathlib.Nat.{add-zero, add-suc, suc-add, le_of_suc-le-suc, not-suc-le-zero}
 use native.Mathlib.Numerals.{add-one}
 use native.Mathlib.Omega.{arith}
-use lib.ListN.{set, length, take, get_or, length-map}
-use lib.Seq.{sets, length-take-le}
+use lib.ListN.{set, drop, length, take, get_or, length-map}
 use Rattle.records.specs.Writes.{Store, single_bytes, offsets_of, values_of}
-use Rattle.bus.specs.Value.{laid_into}
-use Rattle.records.proofs.Laying.{sets_append, laid_further}
-use Rattle.records.proofs.Stages.{single_count}
-use Rattle.std.proofs.lemmas.List.{map-append}
+use Rattle.bus.proofs.Lists.{laid_suc}
+use Rattle.std.proofs.lemmas.List.{get_or-map}
 
 -- as many offsets as stores, and as many values
 pub offsets_count : (ss : List Store) → length (offsets_of ss) ≡ length ss
@@ -28,31 +25,14 @@ single_suc o [] i h = absurd (not-suc-le-zero h)
 single_suc o (b ∷ bs) zero h = rw add-zero
 single_suc o (b ∷ bs) (suc i) h = ap (λ (r : List Store). record { offset = o; value = b } ∷ r) (single_suc (suc o) bs i (le_of_suc-le-suc h)) ∙ rw (suc-add, add-suc)
 
-single_next : (o : ℕ) (bs : List ℕ) (i : ℕ) → i < length bs
+pub single_next : (o : ℕ) (bs : List ℕ) (i : ℕ) → i < length bs
     → single_bytes o (take (i + 1) bs) ≡ single_bytes o (take i bs) ++ (record { offset = o + i; value = get_or bs i 0 } ∷ [])
 single_next o bs i h = rw add-one (single_suc o bs i h)
 
--- ---- stores laid into the offsets, or into the values
-
-module _ (member : Store → ℕ) where
-  pub members_count : (ss : List Store) → length (map member ss) ≡ length ss
-  members_count ss = length-map ss member
-
-  -- those of one byte more of a stage
-  pub single_laid : (l : List ℕ) (from o : ℕ) (bs : List ℕ) (i : ℕ) → i < length bs
-      → sets l from (map member (single_bytes o (take (i + 1) bs)))
-      ≡ set (sets l from (map member (single_bytes o (take i bs)))) (from + i) (member (record { offset = o + i; value = get_or bs i 0 }))
-  single_laid l from o bs i h =
-      let before = single_bytes o (take i bs) in
-      let next : Store = record { offset = o + i; value = get_or bs i 0 } in
-      ap (λ (ss : List Store). sets l from (map member ss)) (single_next o bs i h)
-      ∙ ap (sets l from) (map-append member before (next ∷ []))
-      ∙ sets_append l from (map member before) (member next ∷ [])
-      ∙ ap (λ (n : ℕ). set (sets l from (map member before)) (from + n) (member next)) (members_count before ∙ single_count o (take i bs) ∙ length-take-le i bs (omega arith))
-
-  -- further ones behind those that are laid
-  pub members_further : (ss ts : List Store) (out : List ℕ) → sets (laid_into (map member ss) out) (length ss) (map member ts) ≡ laid_into (map member (ss ++ ts)) out
-  members_further ss ts out =
-      ap (λ (n : ℕ). sets (laid_into (map member ss) out) n (map member ts)) (sym (members_count ss))
-      ∙ laid_further (map member ss) (map member ts) out
-      ∙ ap (λ (l : List ℕ). laid_into l out) (sym (map-append member ss ts))
+-- one more store laid into the offsets, or into the values
+module _ (member : Store → ℕ) (ss : List Store) (out : List ℕ) where
+  pub member_next : (i : ℕ) (d : Store) → i < length ss → length ss ≤ length out
+      → set (take i (map member ss) ++ drop i out) i (member (get_or ss i d)) ≡ take (i + 1) (map member ss) ++ drop (i + 1) out
+  member_next i d h k =
+      ap (set (take i (map member ss) ++ drop i out) i) (sym (get_or-map member ss i d 0 h))
+      ∙ laid_suc (map member ss) out i 0 (rw length-map h) (omega arith)

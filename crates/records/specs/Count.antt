@@ -14,6 +14,7 @@ use Rattle.bank.specs.Fields.{luminaire_fields, is_text_kind}
 use Rattle.bank.specs.Writable.{format_in}
 use Rattle.bank.specs.Calls.{sum}
 use Rattle.records.specs.declared.luminaire_write.Plan.{Plan}
+use Rattle.records.specs.declared.luminaire_write.TheConstants.{MOST_STORES}
 use Rattle.records.specs.Plan.{plan_checks, stores_of, planned}
 
 -- "from a plan's inputs its number of stores without laying them"; "a refusal is the same one .., except that 13 .. can't
@@ -25,8 +26,9 @@ counted_stores p text = checked (plan_checks p text) Err (Ok (length (stores_of 
 pub record AsLaid (p : Plan) (text os vs : List ℕ) : Type 0 where
   pub accepted : {n : ℕ} → planned p text os vs ≡ Ok n → counted_stores p text ≡ Ok n
   pub refused : {r : Refusal} → planned p text os vs ≡ Err r → (r ≡ SliceTooShort → ⊥) → counted_stores p text ≡ Err r
-  -- where a slice is too short, the count is the length that it lacks
-  pub lacking : planned p text os vs ≡ Err SliceTooShort → (n : ℕ) × ((counted_stores p text ≡ Ok n) × (min (length os) (length vs) < n))
+  -- where a slice is too short, the count is the length that was lacking
+  pub lacking : planned p text os vs ≡ Err SliceTooShort
+      → (counted_stores p text ≡ Ok (length (stores_of p text))) × (min (length os) (length vs) < length (stores_of p text))
 
 abbrev pub StoresAsLaid : Type 0
 StoresAsLaid = (p : Plan) (text os vs : List ℕ) → AsLaid p text os vs
@@ -95,6 +97,8 @@ pub record AtMost78And80 : Type 0 where
   pub in_format_3 : most_stores V3 ≡ 78
   pub in_format_4 : most_stores V4 ≡ 78
   pub in_format_5 : most_stores V5 ≡ 80
+  -- the room that is enough for any plan
+  pub room : MOST_STORES ≡ most_stores V5
   pub reached : (v : LuminaireFormat) → Reached v
   -- an accepted plan without such a format has no stores
   pub in_none : (p : Plan) (text : List ℕ) → format_in p.layout.content_format_id ≡ None

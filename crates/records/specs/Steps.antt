@@ -21,21 +21,24 @@ abbrev pub pushed : List ℕ → List ℕ → Option Pushed
 pushed [] out = None
 pushed (b ∷ bs) out = option_map (λ n. record { taken = taken_len (b ∷ bs); len = n }) (pushed_len (piece (b ∷ bs)) out)
 
--- the places of the table where something is wanted, a bit for each; and none of them from a place on, below another
+-- the places of the table where something is wanted, a bit for each
 abbrev pub WantedAt : LuminaireNumbers → Option ℕ → ℕ → Type 0
 WantedAt n which places =
     (i : ℕ) (f : LuminaireField) → slice_get luminaire_fields i ≡ Some f →
     is_set places i ≡ (is_some (wanted_number n f.kind) || is_for which i)
 
+-- none of them is at a place from one on and below another
 abbrev pub NoneWanted : ℕ → ℕ → ℕ → Type 0
 NoneWanted places from to = (i : ℕ) → from ≤ i → i < to → is_set places i ≡ false
 
--- how many stores a write of so many bytes has, the number that is wanted of a field, and a text of so many bytes
+-- how many stores a write has, by how many bytes it has
 abbrev pub count_of : LuminaireField → ℕ → ℕ
 count_of f n = cond (is_staged f.kind n) (n + 1) n
 
+-- that of the number that is wanted of a field
 abbrev pub number_stores : LuminaireNumbers → LuminaireField → ℕ
 number_stores n f = cond (is_some (wanted_number n f.kind)) f.len 0
 
+-- and that of a text, by how many bytes the text has
 abbrev pub text_stores : LuminaireField → ℕ → ℕ
 text_stores f n = count_of f (min f.len (n + 1))

@@ -14,6 +14,7 @@ use Rattle.records.specs.declared.luminaire_write.FieldWrite.{FieldWrite}
 use Rattle.records.specs.declared.luminaire_write.StagePart.{StagePart}
 use Rattle.records.specs.declared.luminaire_write.StagePart.TheVariants.{Terminator, Whole, Tail, Head}
 use Rattle.records.specs.declared.luminaire_write.WriteStage.{WriteStage}
+use Rattle.records.specs.declared.luminaire_write.Store as store
 
 -- "Mask bits 0 to 10 are the numbers in the order of `number_values` (001)"
 abbrev pub number_values : LuminaireNumbers → List ℕ
@@ -159,9 +160,8 @@ part_of Tail bytes = drop 1 bytes
 part_of Head bytes = take 1 bytes
 
 -- "a list of stores, each an offset and a value"
-pub record Store : Type 0 where
-  pub offset : ℕ
-  pub value : ℕ
+abbrev pub Store : Type 0
+Store = store.Store
 
 -- "each stage cut into single bytes from its first"
 abbrev pub single_bytes : ℕ → List ℕ → List Store

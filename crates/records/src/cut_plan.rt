@@ -7,7 +7,7 @@ ghost use Rattle.records.specs.Plan.{plan_checks, stores_of};
 ghost use Rattle.records.specs.Cut.{cut_bank};
 ghost use Rattle.records.specs.CutRun.{bank_behind, read_back, buffer_behind, answers_behind};
 
-use crate::luminaire_write::{LuminaireNumbers, MOST_STORES, Plan};
+use crate::luminaire_write::{LuminaireNumbers, NO_STORES, Plan};
 use crate::output::put;
 use bank::call_list::{Answer, Call, run};
 use bank::{Bank1Layout, ChunkMode, ReadOut, Refusal};
@@ -27,11 +27,11 @@ fn store(plan: Plan, text: &[u8], cut: usize, bank: &mut [u8]) -> Result<(), Ref
     ensures answer { result ≡ tested (plan_checks plan text.now) }
     ensures stored { bank.new ≡ checked (plan_checks plan text.now) (λ _. bank.old) (cut_bank (stores_of plan text.now) cut bank.old) }
 {
-    let mut offsets = [0; MOST_STORES];
-    let mut values = [0; MOST_STORES];
-    let count = plan.stores(text, &mut offsets, &mut values)?;
-    for i in 0..usize::min(cut, count) {
-        put(bank, offsets[i] as usize, values[i]);
+    let count = plan.count(text)?;
+    let mut stores = NO_STORES;
+    plan.lay(text, &mut stores);
+    for store in stores[..count].iter().take(cut) {
+        put(bank, store.offset as usize, store.value);
     }
     Ok(())
 }

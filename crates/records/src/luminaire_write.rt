@@ -1,5 +1,5 @@
 // The plan of a write to bank 1: its writes, their stages and stores, and why it may be refused (luminaire_write.rs).
-ghost use Rattle.std.specs.Prelude.{◌≡◌, ◌+◌, ◌≤◌, ◌<◌, ◌^◌, length, Err, IfSome, None, Ok, Some, option_map, slice_get};
+ghost use Rattle.std.specs.Prelude.{◌≡◌, ◌+◌, ◌≤◌, ◌<◌, ◌^◌, length, take, Err, IfSome, None, Ok, Some, option_map, slice_get, true};
 ghost use Rattle.std.proofs.lemmas.List.Edits.{sets};
 ghost use Rattle.std.specs.Bool.{then_some};
 ghost use Rattle.std.specs.Int.Count.{ones};
@@ -7,7 +7,7 @@ ghost use Rattle.bus.specs.Number.{low_bytes};
 ghost use Rattle.bus.specs.Value.{laid_into};
 ghost use Rattle.bank.specs.Refusal.{tested, checked};
 ghost use Rattle.bank.specs.Fields.{luminaire_fields};
-ghost use Rattle.records.specs.Writes.{number_values, number_for, wanted_number, is_for, terminated, bytes_for, written, planned_writes, field_writes, all_bytes, end_of, held_by, is_staged, stages_of, stages_at, part_of, single_bytes, write_stores, stores_at, offsets_of, values_of, gather};
+ghost use Rattle.records.specs.Writes.{number_values, number_for, is_set, wanted_number, is_for, terminated, bytes_for, written, planned_writes, field_writes, all_bytes, end_of, held_by, is_staged, stages_of, stages_at, part_of, single_bytes, write_stores, stores_at, offsets_of, values_of, gather};
 ghost use Rattle.records.specs.Plan.{number_checks, write_text_checks, if_wanted, field_checks, index_over, plan_checks, stores_of, planned, offsets_after, values_after};
 ghost use Rattle.records.specs.Count.{counted_stores};
 ghost use Rattle.records.specs.Steps.{WantedAt, NoneWanted, number_stores, text_stores};
@@ -155,8 +155,8 @@ struct Row {
     ghost in_table: { slice_get luminaire_fields index ≡ Some field },
 }
 
-// The places of the table where something is wanted, a bit for each. The mask has the ten numbers behind the layout id at its
-// lowest bits, and the lamp current at the next.
+// The places of the table where something is wanted, a bit for each. The mask's first ten bits are the numbers at the places 1
+// to 10, and its last the lamp current, at place 16. An index over the last is that of no place.
 fn wanted_places(numbers: LuminaireNumbers, text_field: Option<usize>) -> u32
     ensures few { result < 2 ^ 18 }
     ensures places { WantedAt numbers text_field result }
@@ -176,7 +176,7 @@ fn wanted_places(numbers: LuminaireNumbers, text_field: Option<usize>) -> u32
 fn next_row(places: u32, from: usize) -> Option<Row>
     requires few { places < 2 ^ 18 }
     requires within { from ≤ 18 }
-    ensures some { IfSome result (λ row. (from ≤ row.index) × NoneWanted places from row.index) }
+    ensures some { IfSome result (λ row. (from ≤ row.index) × NoneWanted places from row.index × (is_set places row.index ≡ true)) }
     ensures none { result ≡ None → NoneWanted places from 18 }
 {
     let rest = places >> from;
@@ -287,8 +287,8 @@ impl FieldWrite {
     }
 }
 
-// How many stores the write of a text has: a 00 stands behind one that is shorter than its field, and one of two or more
-// bytes is emptied first.
+// How many stores the write of a text has: a 00 stands behind a text that is shorter than its field, and a write of two or
+// more bytes empties it first.
 fn text_stores(field: LuminaireField, len: usize) -> usize
     requires { len ≤ field.len }
     ensures { result ≡ text_stores field len }
@@ -331,38 +331,49 @@ fn is_for(text_field: Option<usize>, index: usize) -> bool
     text_field == Some(index)
 }
 
+// A store: its offset in the bank, and its value.
+#[derive(Clone, Copy)]
+pub struct Store {
+    pub offset: u8,
+    pub value: u8,
+}
+
+// Room for the stores of a plan.
+pub(crate) const NO_STORES: [Store; MOST_STORES] = [Store {
+    offset: 0,
+    value: 0,
+}; MOST_STORES];
+
 // Lays the stores of a stage from an index on, one for each byte, and answers the index behind them.
-fn lay_stage(offset: u8, bytes: &[u8], offsets: &mut [u8], values: &mut [u8], from: usize) -> usize
+fn lay_stage(offset: u8, bytes: &[u8], stores: &mut [Store], from: usize) -> usize
     requires in_bank { offset + length bytes.now ≤ 256 }
-    requires offsets_room { from + length bytes.now ≤ length offsets.old }
-    requires values_room { from + length bytes.now ≤ length values.old }
+    requires room { from + length bytes.now ≤ length stores.old }
     ensures behind { result ≡ from + length bytes.now }
-    ensures offsets { offsets.new ≡ sets offsets.old from (offsets_of (single_bytes offset bytes.now)) }
-    ensures values { values.new ≡ sets values.old from (values_of (single_bytes offset bytes.now)) }
+    ensures laid { stores.new ≡ sets stores.old from (single_bytes offset bytes.now) }
 {
     for (i, byte) in bytes.iter().enumerate() {
-        offsets[from + i] = offset + i as u8;
-        values[from + i] = *byte;
+        stores[from + i] = Store {
+            offset: offset + i as u8,
+            value: *byte,
+        };
     }
     from + bytes.len()
 }
 
 // The same for the stores of the write to a field, in the order of its stages.
-fn lay_write(row: Row, bytes: &[u8], offsets: &mut [u8], values: &mut [u8], from: usize) -> usize
+fn lay_write(row: Row, bytes: &[u8], stores: &mut [Store], from: usize) -> usize
     requires fits { length bytes.now ≤ row.field.len }
-    requires offsets_room { from + length (write_stores (written row.index row.field bytes.now)) ≤ length offsets.old }
-    requires values_room { from + length (write_stores (written row.index row.field bytes.now)) ≤ length values.old }
+    requires room { from + length (write_stores (written row.index row.field bytes.now)) ≤ length stores.old }
     ensures behind { result ≡ from + length (write_stores (written row.index row.field bytes.now)) }
-    ensures offsets { offsets.new ≡ sets offsets.old from (offsets_of (write_stores (written row.index row.field bytes.now))) }
-    ensures values { values.new ≡ sets values.old from (values_of (write_stores (written row.index row.field bytes.now))) }
+    ensures laid { stores.new ≡ sets stores.old from (write_stores (written row.index row.field bytes.now)) }
 {
     let start = row.field.offset;
     if !is_staged(row.field, bytes.len()) {
-        return lay_stage(start, bytes, offsets, values, from);
+        return lay_stage(start, bytes, stores, from);
     }
-    let emptied = lay_stage(start, &[TEXT_TERMINATOR], offsets, values, from);
-    let tailed = lay_stage(start + 1, &bytes[1..], offsets, values, emptied);
-    lay_stage(start, &bytes[..1], offsets, values, tailed)
+    let emptied = lay_stage(start, &[TEXT_TERMINATOR], stores, from);
+    let tailed = lay_stage(start + 1, &bytes[1..], stores, emptied);
+    lay_stage(start, &bytes[..1], stores, tailed)
 }
 
 // What is to be written: the numbers, and at most one text, whose field is told by its index.
@@ -396,13 +407,12 @@ impl<'a> Content<'a> {
         }
     }
 
-    // Lays the stores of the write to a field from an index on, where there is one, and answers the index behind them.
-    fn lay_field(&self, row: Row, offsets: &mut [u8], values: &mut [u8], from: usize) -> usize
-        requires offsets_room { from + length (stores_at self.now.numbers self.now.text_field self.now.text.now row.index row.field) ≤ length offsets.old }
-        requires values_room { from + length (stores_at self.now.numbers self.now.text_field self.now.text.now row.index row.field) ≤ length values.old }
+    // Lays the stores of the write to a field from an index on, where there is one, and answers the index behind them. The
+    // bytes of a number are laid from where they stand: no list is filled with them first.
+    fn lay_field(&self, row: Row, stores: &mut [Store], from: usize) -> usize
+        requires room { from + length (stores_at self.now.numbers self.now.text_field self.now.text.now row.index row.field) ≤ length stores.old }
         ensures behind { result ≡ from + length (stores_at self.now.numbers self.now.text_field self.now.text.now row.index row.field) }
-        ensures offsets { offsets.new ≡ sets offsets.old from (offsets_of (stores_at self.now.numbers self.now.text_field self.now.text.now row.index row.field)) }
-        ensures values { values.new ≡ sets values.old from (values_of (stores_at self.now.numbers self.now.text_field self.now.text.now row.index row.field)) }
+        ensures laid { stores.new ≡ sets stores.old from (stores_at self.now.numbers self.now.text_field self.now.text.now row.index row.field) }
     {
         match row.field.kind {
             FieldKind::Number { .. } => {
@@ -411,12 +421,12 @@ impl<'a> Content<'a> {
                 };
                 let wide = value.to_be_bytes();
                 let bytes = &wide[4 - row.field.len as usize..];
-                lay_stage(row.field.offset, bytes, offsets, values, from)
+                lay_stage(row.field.offset, bytes, stores, from)
             }
             FieldKind::Text(_) if is_for(self.text_field, row.index) => {
                 let mut bytes = FixedList::new(0);
                 set_text(&mut bytes, row.field, self.text);
-                lay_write(row, bytes.as_slice(), offsets, values, from)
+                lay_write(row, bytes.as_slice(), stores, from)
             }
             FieldKind::LayoutId | FieldKind::Text(_) => from,
         }
@@ -462,6 +472,19 @@ pub fn planned_writes(
         }
     }
     count
+}
+
+// Lays stores into the two byte slices that 01 has a caller lend, the offsets and the values.
+fn lay_stores(stores: &[Store], offsets: &mut [u8], values: &mut [u8])
+    requires offsets_room { length stores.now ≤ length offsets.old }
+    requires values_room { length stores.now ≤ length values.old }
+    ensures offsets { offsets.new ≡ laid_into (offsets_of stores.now) offsets.old }
+    ensures values { values.new ≡ laid_into (values_of stores.now) values.old }
+{
+    for (i, store) in stores.iter().enumerate() {
+        offsets[i] = store.offset;
+        values[i] = store.value;
+    }
 }
 
 // Whether a number may be written to a field.
@@ -513,6 +536,7 @@ impl Plan {
             return Ok(number);
         }
         check_text(self.layout, row.field, text)?;
+        // A field that takes a text has no number.
         Ok(text_stores(row.field, text.len()))
     }
 
@@ -549,12 +573,11 @@ impl Plan {
         self.count_fields(text)
     }
 
-    // Lays the stores, by rising offset of their fields.
-    fn lay(self, text: &[u8], offsets: &mut [u8], values: &mut [u8])
-        requires offsets_room { length (stores_of self text.now) ≤ length offsets.old }
-        requires values_room { length (stores_of self text.now) ≤ length values.old }
-        ensures offsets { offsets.new ≡ laid_into (offsets_of (stores_of self text.now)) offsets.old }
-        ensures values { values.new ≡ laid_into (values_of (stores_of self text.now)) values.old }
+    // Lays the stores, by rising offset of their fields, whether the plan is accepted or not: the room begins with them then.
+    // It is lent, since handed back it would be copied.
+    pub(crate) fn lay(self, text: &[u8], stores: &mut [Store])
+        requires { length (stores_of self text.now) ≤ length stores.old }
+        ensures { take (length (stores_of self text.now)) stores.new ≡ stores_of self text.now }
     {
         let content = Content {
             numbers: self.numbers,
@@ -565,7 +588,7 @@ impl Plan {
         let mut laid = 0;
         let mut from = 0;
         while let Some(row) = next_row(places, from) {
-            laid = content.lay_field(row, offsets, values, laid);
+            laid = content.lay_field(row, stores, laid);
             from = row.index + 1;
         }
     }
@@ -586,7 +609,9 @@ impl Plan {
         if offsets.len() < count || values.len() < count {
             return Err(Refusal::SliceTooShort);
         }
-        self.lay(text, offsets, values);
+        let mut stores = NO_STORES;
+        self.lay(text, &mut stores);
+        lay_stores(&stores[..count], offsets, values);
         Ok(count)
     }
 }

@@ -22,26 +22,15 @@ laid c =
 pub overflow_sub-bytes : goal.overflow_sub-bytes
 overflow_sub-bytes c = few (goal.at.overflow_sub-bytes c).After-to_be_bytes-wide
 
-pub lay_stage-requires-clause-in_bank : goal.lay_stage-requires-clause-in_bank
-lay_stage-requires-clause-in_bank c =
-    omega (arith, (laid (goal.at.lay_stage-requires-clause-in_bank c).After-to_be_bytes-wide).count, (within_bank c.args.row.index c.args.row.in_table).ends)
-
-pub lay_stage-requires-clause-offsets_room : goal.lay_stage-requires-clause-offsets_room
-lay_stage-requires-clause-offsets_room c =
-    omega (arith, laid (goal.at.lay_stage-requires-clause-offsets_room c).After-to_be_bytes-wide, c.requires.offsets_room)
-
-pub lay_stage-requires-clause-values_room : goal.lay_stage-requires-clause-values_room
-lay_stage-requires-clause-values_room c =
-    omega (arith, laid (goal.at.lay_stage-requires-clause-values_room c).After-to_be_bytes-wide, c.requires.values_room)
+pub lay_stage-requires : goal.lay_stage-requires
+lay_stage-requires c =
+    let own = laid (goal.at.lay_stage-requires c).After-to_be_bytes-wide in
+    record { in_bank = omega (arith, own.count, (within_bank c.args.row.index c.args.row.in_table).ends); room = omega (arith, own, c.requires) }
 
 pub set_text-requires : goal.set_text-requires
 set_text-requires c = (within_bank c.args.row.index c.args.row.in_table).few
 
-pub returns-in-Some-clause-behind : goal.returns-in-Some-clause-behind
-returns-in-Some-clause-behind c = omega (arith, laid (goal.at.returns-in-Some-clause-behind c).After-to_be_bytes-wide, c.lay_stage.ensures.behind)
-
-pub returns-in-Some-clause-offsets : goal.returns-in-Some-clause-offsets
-returns-in-Some-clause-offsets c = rw (← (laid (goal.at.returns-in-Some-clause-offsets c).After-to_be_bytes-wide).stores) c.lay_stage.ensures.offsets
-
-pub returns-in-Some-clause-values : goal.returns-in-Some-clause-values
-returns-in-Some-clause-values c = rw (← (laid (goal.at.returns-in-Some-clause-values c).After-to_be_bytes-wide).stores) c.lay_stage.ensures.values
+pub returns-in-Some : goal.returns-in-Some
+returns-in-Some c =
+    let own = laid (goal.at.returns-in-Some c).After-to_be_bytes-wide in
+    record { behind = omega (arith, own, c.lay_stage.ensures.behind); laid = rw (← own.stores) c.lay_stage.ensures.laid }

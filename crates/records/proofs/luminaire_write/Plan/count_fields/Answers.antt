@@ -1,14 +1,13 @@
 -- `records::luminaire_write::Plan::count_fields` meets its contract, by its invariant.
 -- Assumes nothing.
-use Rattle.std.proofs.Common.{◌≡◌, refl, sym, ap, ◌∙◌, ◌<◌, length, take, None, Ok, arith}
-use Rattle.std.proofs.lemmas.Option.{slice_get_within}
+use Rattle.std.proofs.Common.{◌≡◌, refl, sym, ap, ◌∙◌, length, take, None, Ok, arith}
 use Rattle.std.proofs.lemmas.Result.{err_from_is_err_and}
 use Rattle.bank.specs.Refusal.{first_of}
 use Rattle.bank.specs.Fields.{luminaire_fields}
 use Rattle.bank.proofs.Checks.{was_refused}
 use Rattle.records.specs.Writes.{gather}
 use Rattle.records.specs.Plan.{field_checks}
-use Rattle.records.proofs.Table.{all_rows, table_length}
+use Rattle.records.proofs.Table.{all_rows, row_within}
 use Rattle.records.proofs.Room.{own_counted, same_front, still_passed, all_front}
 use Rattle.records.proofs.Refusals.{first_none, field_refused}
 use Rattle.records.proofs.luminaire_write.Plan.count_fields.Goals as goal
@@ -19,11 +18,6 @@ passed : (c : In-Some) → first_of (gather (field_checks c.args.self c.args.tex
 passed c =
     let next = c.in-Some.ensures.some in
     still_passed c.args.self c.args.text.now c.wanted_places-places.result c.wanted_places-places.ensures.places next.1 next.0 c.loop-row.invariant.passed
-
-in_table : (c : In-Some) → c.in-Some.row.index < 18
-in_table c =
-    let row = c.in-Some.row in
-    omega (arith, slice_get_within luminaire_fields row.index row.field row.in_table, table_length)
 
 pub loop-row-init : goal.loop-row-init
 loop-row-init c = record { within = omega arith; passed = first_none; few = omega arith; counted = refl }
@@ -39,13 +33,13 @@ pub overflow_add-count : goal.overflow_add-count
 overflow_add-count c =
     let row = c.in-Some.row in
     let t = own_counted c.args.self c.args.text.now row.index row.in_table (passed (goal.at.overflow_add-count c).In-Some) (sym c.count_field.ensures ∙ c.in_ok-count.was) in
-    omega (arith, t, c.loop-row.invariant, c.in-Some.ensures.some.0, in_table (goal.at.overflow_add-count c).In-Some)
+    omega (arith, t, c.loop-row.invariant, c.in-Some.ensures.some.0, row_within row.index row.in_table)
 
 pub overflow_add-from : goal.overflow_add-from
-overflow_add-from c = omega (arith, in_table (goal.at.overflow_add-from c).In-Some)
+overflow_add-from c = omega (arith, row_within c.in-Some.row.index c.in-Some.row.in_table)
 
 pub loop-row-smaller : goal.loop-row-smaller
-loop-row-smaller c = omega (arith, in_table (goal.at.loop-row-smaller c).In-Some, c.in-Some.ensures.some.0)
+loop-row-smaller c = omega (arith, row_within c.in-Some.row.index c.in-Some.row.in_table, c.in-Some.ensures.some.0)
 
 pub loop-row-preserved : goal.loop-row-preserved
 loop-row-preserved c =
@@ -58,7 +52,7 @@ loop-row-preserved c =
     let t = own_counted p a.text.now row.index row.in_table (passed some) (sym c.count_field.ensures ∙ c.in_ok-count.was) in
     let same = same_front p.numbers p.text_field c.wanted_places-places.result c.wanted_places-places.ensures.places next.1 next.0 a.text.now in
     record {
-      within = omega (arith, in_table some);
+      within = omega (arith, row_within row.index row.in_table);
       passed = t.passed;
       few = omega (arith, t, s.few, next.0);
       counted = omega (arith, s.counted, t.counted, ap length same);

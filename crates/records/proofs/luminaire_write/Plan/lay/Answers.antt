@@ -1,11 +1,9 @@
 -- `records::luminaire_write::Plan::lay` meets its contract, by its invariant.
 -- Assumes nothing.
-use Rattle.std.proofs.Common.{◌≡◌, refl, sym, ap, ◌∙◌, ◌<◌, length, arith}
-use Rattle.std.proofs.lemmas.Option.{slice_get_within}
-use Rattle.bank.specs.Fields.{luminaire_fields}
-use Rattle.records.specs.Writes.{Store}
-use Rattle.records.proofs.Table.{table_length}
-use Rattle.records.proofs.Room.{front, next_count, own_room, own_laid, same_front, all_front}
+use Rattle.std.proofs.Common.{◌≡◌, refl, sym, ap, ◌∙◌, length, arith}
+use Rattle.records.specs.Plan.{stores_of}
+use Rattle.records.proofs.Table.{row_within}
+use Rattle.records.proofs.Room.{front, next_count, own_room, own_laid, same_front, all_front, front_is}
 use Rattle.records.proofs.luminaire_write.Plan.lay.Goals as goal
 use Rattle.records.proofs.luminaire_write.Plan.lay.Goals.{In-Some}
 
@@ -17,29 +15,19 @@ before c =
     let next = c.in-Some.ensures.some in
     same_front p.numbers p.text_field c.wanted_places-places.result c.wanted_places-places.ensures.places next.1 next.0 c.args.text.now
 
-in_table : (c : In-Some) → c.in-Some.row.index < 18
-in_table c =
-    let row = c.in-Some.row in
-    omega (arith, slice_get_within luminaire_fields row.index row.field row.in_table, table_length)
-
 pub lay_field-laid-requires : goal.lay_field-laid-requires
 lay_field-laid-requires c =
     let p = c.args.self in
-    let text = c.args.text.now in
-    let s = c.loop-row.invariant in
     let row = c.in-Some.row in
-    let room = own_room p.numbers p.text_field text row.index row.in_table in
-    let laid = s.counted ∙ ap length (sym (before (goal.at.lay_field-laid-requires c).In-Some)) in
-    record {
-      offsets_room = omega (arith, room, laid, c.requires.offsets_room, c.loop-row.auto.offsets);
-      values_room = omega (arith, room, laid, c.requires.values_room, c.loop-row.auto.values);
-    }
+    let room = own_room p.numbers p.text_field c.args.text.now row.index row.in_table in
+    let laid = c.loop-row.invariant.counted ∙ ap length (sym (before (goal.at.lay_field-laid-requires c).In-Some)) in
+    omega (arith, room, laid, c.requires, c.loop-row.auto.stores)
 
 pub overflow_add-from : goal.overflow_add-from
-overflow_add-from c = omega (arith, in_table (goal.at.overflow_add-from c).In-Some)
+overflow_add-from c = omega (arith, row_within c.in-Some.row.index c.in-Some.row.in_table)
 
 pub loop-row-smaller : goal.loop-row-smaller
-loop-row-smaller c = omega (arith, in_table (goal.at.loop-row-smaller c).In-Some, c.in-Some.ensures.some.0)
+loop-row-smaller c = omega (arith, row_within c.in-Some.row.index c.in-Some.row.in_table, c.in-Some.ensures.some.0)
 
 pub loop-row-preserved : goal.loop-row-preserved
 loop-row-preserved c =
@@ -50,10 +38,9 @@ loop-row-preserved c =
     let e = c.lay_field-laid.ensures in
     let same = before (goal.at.loop-row-preserved c).In-Some in
     record {
-      within = omega (arith, in_table (goal.at.loop-row-preserved c).In-Some);
+      within = omega (arith, row_within row.index row.in_table);
       counted = e.behind ∙ rw (s.counted, ← same) (sym (next_count p.numbers p.text_field text row.index row.in_table));
-      offsets = e.offsets ∙ rw (s.offsets, s.counted, ← same) (own_laid p.numbers p.text_field text row.index row.in_table (λ (s : Store). s.offset) c.args.offsets.now);
-      values = e.values ∙ rw (s.values, s.counted, ← same) (own_laid p.numbers p.text_field text row.index row.in_table (λ (s : Store). s.value) c.args.values.now);
+      stores = e.laid ∙ rw (s.stores, s.counted, ← same) (own_laid p.numbers p.text_field text row.index row.in_table c.args.stores.now);
     }
 
 pub returns : goal.returns
@@ -61,5 +48,6 @@ returns c =
     let p = c.args.self in
     let text = c.args.text.now in
     let s = c.loop-row.invariant in
-    let all = sym (all_front p.numbers p.text_field text) ∙ same_front p.numbers p.text_field c.wanted_places-places.result c.wanted_places-places.ensures.places (c.in_default.ensures.none refl) s.within text in
-    record { offsets = rw all s.offsets; values = rw all s.values }
+    let places = c.wanted_places-places in
+    let all = sym (all_front p.numbers p.text_field text) ∙ same_front p.numbers p.text_field places.result places.ensures.places (c.in_default.ensures.none refl) s.within text in
+    rw (s.stores, ← all) (front_is (stores_of p text) c.args.stores.now refl c.requires)

@@ -3,7 +3,6 @@
 -- Assumes nothing.
 use Rattle.std.specs.Prelude.{◌≡◌, ◌≤◌, ◌-◌, length}
 use Rattle.bus.specs.Value.{laid_into}
-use Rattle.records.specs.Writes.{offsets_of, values_of}
 use Rattle.records.proofs.Room.{front}
 use Rattle.records.proofs.luminaire_write.Plan.lay.Given as goal
 
@@ -12,8 +11,7 @@ invariant-loop-row l =
     record {
       within : l.from ≤ 18;
       counted : l.laid ≡ length (front l.content.numbers l.content.text_field l.text l.from);
-      offsets : l.offsets ≡ laid_into (offsets_of (front l.content.numbers l.content.text_field l.text l.from)) l.initial.offsets;
-      values : l.values ≡ laid_into (values_of (front l.content.numbers l.content.text_field l.text l.from)) l.initial.values;
+      stores : l.stores ≡ laid_into (front l.content.numbers l.content.text_field l.text l.from) l.initial.stores;
     }
 
 abbrev pub decreases-loop-row : goal.decreases-loop-row

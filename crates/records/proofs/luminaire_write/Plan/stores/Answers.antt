@@ -1,10 +1,11 @@
 -- `records::luminaire_write::Plan::stores` meets its contract: refused by a check, by a short slice, or laid.
 -- Assumes nothing.
-use Rattle.std.proofs.Common.{◌≡◌, sym, ◌∙◌, length, None, arith}
+use Rattle.std.proofs.Common.{◌≡◌, ℕ, take, sym, ap, ◌∙◌, length, length-take, None, arith}
 use Rattle.std.proofs.lemmas.Result.{err_from_is_err_and}
 use Rattle.bank.specs.Refusal.{first_of}
 use Rattle.records.specs.Plan.{plan_checks, stores_of}
-use Rattle.records.proofs.Counts.{count_accepted, count_refused}
+use Rattle.records.proofs.Beforehand.{count_accepted, count_refused}
+use Rattle.records.proofs.Counting.{at_most_80}
 use Rattle.records.proofs.Plans.{plan_refused, offsets_short, values_short, plan_accepted}
 use Rattle.records.proofs.luminaire_write.Plan.stores.Goals as goal
 use Rattle.records.proofs.luminaire_write.Plan.stores.Goals.{In_ok-count, then-offsets-count-via-then-offsets-count, then-offsets-count-via-else-offsets-count+then-values-count}
@@ -35,13 +36,26 @@ returns-then-offsets-count c =
 
 pub lay-requires : goal.lay-requires
 lay-requires c =
-    let t = told (goal.at.lay-requires c).In_ok-count in
-    record { offsets_room = omega (arith, t.1); values_room = omega (arith, t.1) }
+    let a = c.args in
+    omega (arith, at_most_80 a.self a.text.now (told (goal.at.lay-requires c).In_ok-count).0)
+
+pub slice_bounds-stores-end : goal.slice_bounds-stores-end
+slice_bounds-stores-end c =
+    let a = c.args in
+    let t = told (goal.at.slice_bounds-stores-end c).In_ok-count in
+    omega (arith, t.1, at_most_80 a.self a.text.now t.0, c.lay.auto.stores)
+
+pub slice_bounds-lay_stores-end : goal.slice_bounds-lay_stores-end
+slice_bounds-lay_stores-end c =
+    let a = c.args in
+    let t = told (goal.at.slice_bounds-lay_stores-end c).In_ok-count in
+    simp length-take (omega (arith, t.1, at_most_80 a.self a.text.now t.0, c.lay.auto.stores))
 
 pub returns : goal.returns
 returns c =
     let a = c.args in
     let t = told (goal.at.returns c).In_ok-count in
-    let e = c.lay.ensures in
-    let all = plan_accepted a.self a.text.now a.offsets.now a.values.now t.0 (omega (arith, t.1)) (omega (arith, t.1)) t.1 e.offsets e.values in
+    let first = ap (λ (n : ℕ). take n c.lay.new.stores) t.1 ∙ c.lay.ensures in
+    let e = c.lay_stores.ensures in
+    let all = plan_accepted a.self a.text.now a.offsets.now a.values.now t.0 (omega (arith, t.1)) (omega (arith, t.1)) t.1 (rw first at e.offsets) (rw first at e.values) in
     record { count = all.0; offsets = all.1.0; values = all.1.1 }

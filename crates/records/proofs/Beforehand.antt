@@ -125,5 +125,5 @@ stores_as_laid p text os vs =
       lacking = λ e.
           as_refused p text os vs e
           (λ own. not_13 p text (count_refused p text own))
-          (λ is f short. (length (stores_of p text), (no_checks p text f, short)));
+          (λ is f short. (no_checks p text f, short));
     }
