@@ -227,7 +227,7 @@ module _ (places from : ℕ) where
     pub next_set : is_set places next ≡ true
     next_set = eq-eqb (bit places next) 1 next_is
 
-    next_within : next < 18
+    pub next_within : next < 18
     next_within =
         by_test (leb 18 next)
         (λ t. let z : ⊥ = omega (arith, sym next_is ∙ bit_at_above places 18 next few (leb-true 18 next t)) in absurd z)

@@ -1,6 +1,6 @@
 -- The rules of the table of fields, each computed once over the whole table.
 -- Assumes nothing.
-use Rattle.std.proofs.lemmas.Option.{same_Some, slice_get_within}
+use Rattle.std.proofs.lemmas.Option.{same_Some}
 use Rattle.std.specs.Prelude.{Option, Some, slice_get}
 use mathlib.Core.Path.{◌≡◌, refl, subst}
 use mathlib.Core.Bool.{Bool, true, ◌&&◌}
@@ -65,9 +65,6 @@ within_bank {f} i e =
 pub table_length : length luminaire_fields ≡ 18
 unfolding luminaire_fields
 table_length = refl
-
-pub row_within : {f : LuminaireField} (i : ℕ) → slice_get luminaire_fields i ≡ Some f → i < 18
-row_within {f} i e = omega (arith, slice_get_within luminaire_fields i f e, table_length)
 
 -- in a loop over the table: what a turn's field gives comes behind what the fields before it give
 pub next_field : {t : List LuminaireField} → t ≡ luminaire_fields → (i : ℕ) (d : LuminaireField) → i < length t → {A : Type 0} (g : ℕ → LuminaireField → List A)

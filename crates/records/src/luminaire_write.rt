@@ -176,7 +176,7 @@ fn wanted_places(numbers: LuminaireNumbers, text_field: Option<usize>) -> u32
 fn next_row(places: u32, from: usize) -> Option<Row>
     requires few { places < 2 ^ 18 }
     requires within { from ≤ 18 }
-    ensures some { IfSome result (λ row. (from ≤ row.index) × NoneWanted places from row.index × (is_set places row.index ≡ true)) }
+    ensures some { IfSome result (λ row. (from ≤ row.index) × (row.index < 18) × NoneWanted places from row.index × (is_set places row.index ≡ true)) }
     ensures none { result ≡ None → NoneWanted places from 18 }
 {
     let rest = places >> from;

@@ -2,7 +2,7 @@
 -- Assumes nothing.
 use Rattle.std.proofs.Common.{arith}
 use Rattle.std.proofs.lemmas.Option.{slice_get-get_or}
-use Rattle.records.proofs.Rows.{none_left, next_in, none_before, next_set}
+use Rattle.records.proofs.Rows.{none_left, next_within, next_in, none_before, next_set}
 use Rattle.records.proofs.luminaire_write.next_row.Goals as goal
 
 pub returns-then-rest-eq0-clause-none : goal.returns-then-rest-eq0-clause-none
@@ -18,6 +18,7 @@ invariant_of-result c =
 pub returns-clause-some : goal.returns-clause-some
 returns-clause-some c = (
   omega arith,
+  next_within c.args.places c.args.from c.requires.few c.if-rest-eq0.false,
   none_before c.args.places c.args.from c.requires.few c.if-rest-eq0.false,
   next_set c.args.places c.args.from c.requires.few c.if-rest-eq0.false,
 )

@@ -7,7 +7,7 @@ use Rattle.bank.specs.Fields.{luminaire_fields}
 use Rattle.bank.proofs.Checks.{was_refused}
 use Rattle.records.specs.Writes.{gather}
 use Rattle.records.specs.Plan.{field_checks}
-use Rattle.records.proofs.Table.{all_rows, row_within}
+use Rattle.records.proofs.Table.{all_rows}
 use Rattle.records.proofs.Room.{own_counted, same_front, still_passed, all_front}
 use Rattle.records.proofs.Refusals.{first_none, field_refused}
 use Rattle.records.proofs.luminaire_write.Plan.count_fields.Goals as goal
@@ -17,7 +17,7 @@ use Rattle.records.proofs.luminaire_write.Plan.count_fields.Goals.{In-Some}
 passed : (c : In-Some) → first_of (gather (field_checks c.args.self c.args.text.now) (take c.in-Some.row.index luminaire_fields)) ≡ None
 passed c =
     let next = c.in-Some.ensures.some in
-    still_passed c.args.self c.args.text.now c.wanted_places-places.result c.wanted_places-places.ensures.places next.1 next.0 c.loop-row.invariant.passed
+    still_passed c.args.self c.args.text.now c.wanted_places-places.result c.wanted_places-places.ensures.places next.2 next.0 c.loop-row.invariant.passed
 
 pub loop-row-init : goal.loop-row-init
 loop-row-init c = record { within = omega arith; passed = first_none; few = omega arith; counted = refl }
@@ -33,13 +33,7 @@ pub overflow_add-count : goal.overflow_add-count
 overflow_add-count c =
     let row = c.in-Some.row in
     let t = own_counted c.args.self c.args.text.now row.index row.in_table (passed (goal.at.overflow_add-count c).In-Some) (sym c.count_field.ensures ∙ c.in_ok-count.was) in
-    omega (arith, t, c.loop-row.invariant, c.in-Some.ensures.some.0, row_within row.index row.in_table)
-
-pub overflow_add-from : goal.overflow_add-from
-overflow_add-from c = omega (arith, row_within c.in-Some.row.index c.in-Some.row.in_table)
-
-pub loop-row-smaller : goal.loop-row-smaller
-loop-row-smaller c = omega (arith, row_within c.in-Some.row.index c.in-Some.row.in_table, c.in-Some.ensures.some.0)
+    omega (arith, t, c.loop-row.invariant, c.in-Some.ensures.some.0, c.in-Some.ensures.some.1)
 
 pub loop-row-preserved : goal.loop-row-preserved
 loop-row-preserved c =
@@ -50,9 +44,9 @@ loop-row-preserved c =
     let next = c.in-Some.ensures.some in
     let some = (goal.at.loop-row-preserved c).In-Some in
     let t = own_counted p a.text.now row.index row.in_table (passed some) (sym c.count_field.ensures ∙ c.in_ok-count.was) in
-    let same = same_front p.numbers p.text_field c.wanted_places-places.result c.wanted_places-places.ensures.places next.1 next.0 a.text.now in
+    let same = same_front p.numbers p.text_field c.wanted_places-places.result c.wanted_places-places.ensures.places next.2 next.0 a.text.now in
     record {
-      within = omega (arith, row_within row.index row.in_table);
+      within = omega (arith, next.1);
       passed = t.passed;
       few = omega (arith, t, s.few, next.0);
       counted = omega (arith, s.counted, t.counted, ap length same);

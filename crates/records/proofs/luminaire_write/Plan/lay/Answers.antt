@@ -2,7 +2,6 @@
 -- Assumes nothing.
 use Rattle.std.proofs.Common.{◌≡◌, refl, sym, ap, ◌∙◌, length, arith}
 use Rattle.records.specs.Plan.{stores_of}
-use Rattle.records.proofs.Table.{row_within}
 use Rattle.records.proofs.Room.{front, next_count, own_room, own_laid, same_front, all_front, front_is}
 use Rattle.records.proofs.luminaire_write.Plan.lay.Goals as goal
 use Rattle.records.proofs.luminaire_write.Plan.lay.Goals.{In-Some}
@@ -13,7 +12,7 @@ before : (c : In-Some) → (let p = c.args.self in let text = c.args.text.now in
 before c =
     let p = c.args.self in
     let next = c.in-Some.ensures.some in
-    same_front p.numbers p.text_field c.wanted_places-places.result c.wanted_places-places.ensures.places next.1 next.0 c.args.text.now
+    same_front p.numbers p.text_field c.wanted_places-places.result c.wanted_places-places.ensures.places next.2 next.0 c.args.text.now
 
 pub lay_field-laid-requires : goal.lay_field-laid-requires
 lay_field-laid-requires c =
@@ -22,12 +21,6 @@ lay_field-laid-requires c =
     let room = own_room p.numbers p.text_field c.args.text.now row.index row.in_table in
     let laid = c.loop-row.invariant.counted ∙ ap length (sym (before (goal.at.lay_field-laid-requires c).In-Some)) in
     omega (arith, room, laid, c.requires, c.loop-row.auto.stores)
-
-pub overflow_add-from : goal.overflow_add-from
-overflow_add-from c = omega (arith, row_within c.in-Some.row.index c.in-Some.row.in_table)
-
-pub loop-row-smaller : goal.loop-row-smaller
-loop-row-smaller c = omega (arith, row_within c.in-Some.row.index c.in-Some.row.in_table, c.in-Some.ensures.some.0)
 
 pub loop-row-preserved : goal.loop-row-preserved
 loop-row-preserved c =
@@ -38,7 +31,7 @@ loop-row-preserved c =
     let e = c.lay_field-laid.ensures in
     let same = before (goal.at.loop-row-preserved c).In-Some in
     record {
-      within = omega (arith, row_within row.index row.in_table);
+      within = omega (arith, c.in-Some.ensures.some.1);
       counted = e.behind ∙ rw (s.counted, ← same) (sym (next_count p.numbers p.text_field text row.index row.in_table));
       stores = e.laid ∙ rw (s.stores, s.counted, ← same) (own_laid p.numbers p.text_field text row.index row.in_table c.args.stores.now);
     }
