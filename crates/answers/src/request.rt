@@ -93,21 +93,23 @@ impl<'a> Request<'a> {
         let (numbers, _) = self.bytes(2 * count as usize).as_chunks::<2>();
         numbers
     }
+}
 
-    // Reads a slice of values that are numbers to the start of space, as many as there is room for.
-    pub(crate) fn lend_numbers<'s, T: Take<'a> + Copy>(&mut self, space: &'s mut [T]) -> &'s mut [T]
-        ensures { length result.now ≤ length space.old }
-    {
-        let numbers = self.numbers();
-        let len = numbers.len().min(space.len());
-        let mut values = Request {
-            rest: numbers.as_flattened(),
-        };
-        for value in &mut space[..len] {
-            *value = values.take();
-        }
-        &mut space[..len]
+// Reads values that are numbers to the start of space, as many as there is room for.
+pub(crate) fn lay_values<'a, 's, T: Take<'a> + Copy>(
+    numbers: &'a [[u8; 2]],
+    space: &'s mut [T],
+) -> &'s mut [T]
+    ensures { length result.now ≤ length space.old }
+{
+    let len = numbers.len().min(space.len());
+    let mut values = Request {
+        rest: numbers.as_flattened(),
+    };
+    for value in &mut space[..len] {
+        *value = values.take();
     }
+    &mut space[..len]
 }
 
 impl Take<'_> for u8 {

@@ -16,3 +16,4 @@ pub mod Kept
 pub mod LampCurrent
 pub mod Running
 pub mod Counting
+pub mod Telling

@@ -16,32 +16,47 @@ use Rattle.bank.specs.declared.read_out.ReadOut.{ReadOut}
 use Rattle.bank.specs.Chunk.{ChunkRule, chunk_in}
 use Rattle.bank.specs.ReadOut.{rule_of}
 use Rattle.bank.proofs.Calls.{mode_stays}
-use Rattle.bank.specs.Calls.{Call, want, accept, State, state_of, answer, step, after, answers_of, handed_back, calls_in, Layable, AllHaveBits, EveryListLaid}
+use Rattle.bank.specs.Calls.{Call, want, accept, State, state_of, answer, step, after, answers_of, call_of, calls_in, Layable, AllHaveBits, Lends, LendsAll, EveryListLaid}
 
 -- a call as it is lent
 abbrev lent_call : Call → LentCall
 lent_call (want budget) = lent.TheVariants.Wanting budget
 lent_call (accept budget bytes) = lent.TheVariants.Accepting budget (record { ref_ptr = (0, 0); now = bytes })
 
-lent_calls : (calls : List Call) → calls_in (map lent_call calls) ≡ calls
-lent_calls [] = refl
-lent_calls (want budget ∷ cs) = ap (λ (rest : List Call). want budget ∷ rest) (lent_calls cs)
-lent_calls (accept budget bytes ∷ cs) = ap (λ (rest : List Call). accept budget bytes ∷ rest) (lent_calls cs)
+-- a lent call is read as the one that it is, and so are lent calls
+read_call : (l : LentCall) (c : Call) → Lends l c → call_of l ≡ c
+read_call (lent.TheVariants.Wanting budget) (want b) e = ap want e
+read_call (lent.TheVariants.Wanting budget) (accept b bytes) e = absurd e
+read_call (lent.TheVariants.Accepting budget chunk) (want b) e = absurd e
+read_call (lent.TheVariants.Accepting budget chunk) (accept b bytes) e = ap (λ (n : ℕ). accept n chunk.now) e.0 ∙ ap (accept b) e.1
+
+read_calls : (calls : List Call) (ls : List LentCall) → LendsAll ls calls → calls_in ls ≡ calls
+read_calls [] [] e = refl
+read_calls [] (l ∷ ls) e = absurd e
+read_calls (c ∷ cs) [] e = absurd e
+read_calls (c ∷ cs) (l ∷ ls) e = ap (λ (x : Call). x ∷ calls_in ls) (read_call l c e.0) ∙ ap (λ (rest : List Call). c ∷ rest) (read_calls cs ls e.1)
 
 fitting : (calls : List Call) → Layable calls → AllHaveBits (map lent_call calls)
 fitting [] l = tt
 fitting (want budget ∷ cs) l = (omega (arith, l.0), fitting cs l.1)
 fitting (accept budget bytes ∷ cs) l = (omega (arith, l.0), fitting cs l.1)
 
+lending : (calls : List Call) → LendsAll (map lent_call calls) calls
+lending [] = tt
+lending (want budget ∷ cs) = (refl, lending cs)
+lending (accept budget bytes ∷ cs) = ((refl, refl), lending cs)
+
 pub every_list_laid : EveryListLaid
-every_list_laid calls layable = record { lent = map lent_call calls; fits = fitting calls layable; made = lent_calls calls }
+every_list_laid calls layable =
+    record {
+      lent = map lent_call calls;
+      fits = fitting calls layable;
+      lends = lending calls;
+      made = read_calls calls (map lent_call calls) (lending calls);
+      always = read_calls calls;
+    }
 
 -- ---- a run of calls
-
--- a call hands back the read-out of the next state
-handed_on : (chunk : ChunkRule) (s : State) (c : Call) → handed_back (answer chunk s c) s.out ≡ (step chunk s c).out
-handed_on chunk s (want budget) = refl
-handed_on chunk s (accept budget bytes) = refl
 
 -- with the calls that are left, the run ends as it does with all, and stores the same answers
 pub record Ran (start : State) (all : List Call) (answers₀ : List Answer) (s : State) (answers : List Answer) (count : ℕ) (left : List Call) : Type 0 where
@@ -51,17 +66,16 @@ pub record Ran (start : State) (all : List Call) (answers₀ : List Answer) (s :
 
 module _ {start : State} {all : List Call} {answers₀ : List Answer} {s : State} {answers : List Answer} {count : ℕ} {left : List Call} where
   -- the call that is made next
-  module _ {c : Call} {cs : List Call} {given : Answer} {out : ReadOut} {buffer : List ℕ} {answers' : List Answer} where
-    pub call_made : Ran start all answers₀ s answers count left → left ≡ c ∷ cs → given ≡ answer (rule_of s.out) s c → out ≡ handed_back given s.out
-        → buffer ≡ (step (rule_of s.out) s c).buffer → answers' ≡ set answers count given → Ran start all answers₀ (state_of out buffer) answers' (count + 1) cs
-    call_made r l g o b a =
+  module _ {c : Call} {cs : List Call} {out : ReadOut} {buffer : List ℕ} {answers' : List Answer} where
+    pub call_made : Ran start all answers₀ s answers count left → left ≡ c ∷ cs → out ≡ (step (rule_of s.out) s c).out
+        → buffer ≡ (step (rule_of s.out) s c).buffer → answers' ≡ set answers count (answer (rule_of s.out) s c) → Ran start all answers₀ (state_of out buffer) answers' (count + 1) cs
+    call_made r l o b a =
         let rule : rule_of s.out ≡ rule_of start.out = ap chunk_in r.same in
-        let handed : out ≡ (step (rule_of s.out) s c).out = o ∙ ap (λ (x : Answer). handed_back x s.out) g ∙ handed_on (rule_of s.out) s c in
-        let next : state_of out buffer ≡ step (rule_of s.out) s c = ap (λ (t : ReadOut). state_of t buffer) handed ∙ ap (state_of (step (rule_of s.out) s c).out) b in
+        let next : state_of out buffer ≡ step (rule_of s.out) s c = ap (λ (t : ReadOut). state_of t buffer) o ∙ ap (state_of (step (rule_of s.out) s c).out) b in
         let by_rule : state_of out buffer ≡ step (rule_of start.out) s c = next ∙ ap (λ (k : ChunkRule). step k s c) rule in
-        let laid : answers' ≡ set answers count (answer (rule_of start.out) s c) = a ∙ ap (set answers count) (g ∙ ap (λ (k : ChunkRule). answer k s c) rule) in
+        let laid : answers' ≡ set answers count (answer (rule_of start.out) s c) = a ∙ ap (λ (k : ChunkRule). set answers count (answer k s c)) rule in
         record {
-          same = ap (λ (t : ReadOut). t.mode) handed ∙ mode_stays (rule_of s.out) s c ∙ r.same;
+          same = ap (λ (t : ReadOut). t.mode) o ∙ mode_stays (rule_of s.out) s c ∙ r.same;
           ends = ap (λ (t : State). after (rule_of start.out) t cs) by_rule ∙ (rw l at r.ends);
           stores = ap (λ (t : State). sets answers' (count + 1) (answers_of (rule_of start.out) t cs)) by_rule ∙ (rw (laid, add-one) (rw l at r.stores));
         }

