@@ -8,7 +8,7 @@ use native.Mathlib.Omega.{arith}
 use borrow.Author.Tests.{ltb-false, eqb-false, lt-ltb, le-ltb, eq-eqb, ne_eqb, eqb-true, not-false}
 use lib.Dec.{eqb, ltb}
 use lib.ListN.{length, take, drop}
-use lib.Seq.{paste-zero, drop-drop}
+use lib.Seq.{paste, paste-zero, take-length, drop-drop}
 use Rattle.bank.specs.declared.refusal.Refusal.{Refusal}
 use Rattle.bank.specs.declared.refusal.Refusal.TheVariants.{SliceTooShort, WrongChunkLength}
 use Rattle.bank.specs.declared.read_out.ReadOut.{ReadOut}
@@ -111,6 +111,11 @@ every_chunk_taken_exactly chunk r budget bytes buffer =
       only = λ {s} e. only chunk r budget bytes buffer e;
       refused = λ {e} h. leaves chunk r budget bytes buffer h;
     }
+
+-- all bytes pasted into a buffer are laid in
+pub paste_all : (d : List ℕ) (at : ℕ) (s : List ℕ) (n : ℕ) → n ≡ length s → paste d at s n ≡ laid d at s
+unfolding laid
+paste_all d at s n e = rw (e, take-length)
 
 -- bytes that are copied over a part of a buffer are laid in
 pub part_laid : (buffer : List ℕ) (at n : ℕ) (bytes : List ℕ) {new : List ℕ} → new ≡ bytes → length bytes ≡ n

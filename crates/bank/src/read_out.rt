@@ -1,7 +1,7 @@
 // A bank read out chunk by chunk: which chunk is next, and where its bytes go.
-ghost use Rattle.std.specs.Prelude.{◌≡◌};
+ghost use Rattle.std.specs.Prelude.{◌≡◌, ◌+◌, ◌≤◌, length};
 ghost use Rattle.bank.specs.Refusal.{tested};
-ghost use Rattle.bank.specs.ReadOut.{rule_of, is_done, want_checks, starting, wanting, accepting, buffer_after};
+ghost use Rattle.bank.specs.ReadOut.{rule_of, is_done, want_checks, starting, wanting, accepting, laid, buffer_after};
 ghost use Rattle.bank.specs.Count.{counted_chunks};
 
 use crate::layout::ChunkMode;
@@ -86,8 +86,19 @@ impl ReadOut {
             return Err(Refusal::WrongChunkLength);
         }
         let end = self.next + wanted;
-        buffer[self.next as usize..end as usize].copy_from_slice(chunk);
+        copy_in(chunk, buffer, self.next as usize);
         Ok(ReadOut { next: end, ..self })
+    }
+}
+
+// Stores all of a chunk in a buffer from an index on. By a loop: most chunks have a few bytes, for which `copy_from_slice` makes
+// a read-out byte by byte take a third longer.
+fn copy_in(chunk: &[u8], buffer: &mut [u8], at: usize)
+    requires { at + length chunk.now ≤ length buffer.old }
+    ensures { buffer.new ≡ laid buffer.old at chunk.now }
+{
+    for (i, byte) in chunk.iter().enumerate() {
+        buffer[at + i] = *byte;
     }
 }
 

@@ -7,7 +7,7 @@ use Rattle.bank.specs.Refusal.{first_of}
 use Rattle.bank.specs.ReadOut.{rule_of, advanced, want_checks, wanted_len, Acceptable}
 use Rattle.bank.proofs.Modes.{every_mode_bounded}
 use Rattle.bank.proofs.Checks.{told_err, told_ok}
-use Rattle.bank.proofs.Reading.{valid, refuses_want, refuses_buffer, refuses_chunk, refused, part_laid, every_chunk_taken_exactly}
+use Rattle.bank.proofs.Reading.{valid, refuses_want, refuses_buffer, refuses_chunk, refused, every_chunk_taken_exactly}
 use Rattle.bank.proofs.read_out.ReadOut.accepting.Goals as goal
 use Rattle.bank.proofs.read_out.ReadOut.accepting.Goals.{Else-chunk-wanted, In_ok-check}
 
@@ -59,10 +59,10 @@ overflow_add-end c =
     let passed = sound (goal.at.overflow_add-end c).In_ok-check in
     omega (arith, ends (goal.at.overflow_add-end c).Else-chunk-wanted passed, c.if-chunk-wanted.false, valid a.self a.budget passed)
 
-pub slice_bounds-copy_from_slice-end : goal.slice_bounds-copy_from_slice-end
-slice_bounds-copy_from_slice-end c =
-    let passed = sound (goal.at.slice_bounds-copy_from_slice-end c).In_ok-check in
-    omega (arith, ends (goal.at.slice_bounds-copy_from_slice-end c).Else-chunk-wanted passed, c.if-chunk-wanted.false, c.if-buffer-self.false)
+pub copy_in-requires : goal.copy_in-requires
+copy_in-requires c =
+    let passed = sound (goal.at.copy_in-requires c).In_ok-check in
+    omega (arith, ends (goal.at.copy_in-requires c).Else-chunk-wanted passed, c.if-buffer-self.false)
 
 pub returns : goal.returns
 returns c =
@@ -72,5 +72,5 @@ returns c =
     record { valid = valid a.self a.budget (sound (goal.at.returns c).In_ok-check); room = c.if-buffer-self.false; exact = wanted (goal.at.returns c).Else-chunk-wanted } in
     record {
       answer = ap (λ (n : ℕ). Ok (advanced a.self n)) (sym c.if-chunk-wanted.false) ∙ sym (exactly.accepted ok);
-      stored = part_laid a.buffer.now a.self.next c.chunk_len-wanted.result a.chunk.now c.copy_from_slice.ensures.after c.if-chunk-wanted.false ∙ sym (exactly.stored ok);
+      stored = c.copy_in.ensures ∙ sym (exactly.stored ok);
     }
