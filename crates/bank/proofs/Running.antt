@@ -16,7 +16,7 @@ use Rattle.bank.specs.declared.read_out.ReadOut.{ReadOut}
 use Rattle.bank.specs.Chunk.{ChunkRule, chunk_in}
 use Rattle.bank.specs.ReadOut.{rule_of}
 use Rattle.bank.proofs.Calls.{mode_stays}
-use Rattle.bank.specs.Calls.{Call, want, accept, State, state_of, answer, step, after, answers_of, call_of, calls_in, Layable, AllHaveBits, Lends, LendsAll, EveryListLaid}
+use Rattle.bank.specs.Calls.{Call, want, accept, State, state_of, answer, step, after, answers_of, EveryAnswerHandedOn, call_of, calls_in, Layable, AllHaveBits, Lends, LendsAll, EveryListLaid}
 
 -- a call as it is lent
 abbrev lent_call : Call → LentCall
@@ -57,6 +57,11 @@ every_list_laid calls layable =
     }
 
 -- ---- a run of calls
+
+-- a call hands back the read-out of the next state
+pub handed_on : EveryAnswerHandedOn
+handed_on chunk s (want budget) = refl
+handed_on chunk s (accept budget bytes) = refl
 
 -- with the calls that are left, the run ends as it does with all, and stores the same answers
 pub record Ran (start : State) (all : List Call) (answers₀ : List Answer) (s : State) (answers : List Answer) (count : ℕ) (left : List Call) : Type 0 where

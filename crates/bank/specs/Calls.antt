@@ -27,9 +27,14 @@ abbrev pub state_of : ReadOut → List ℕ → State
 state_of out buffer = record { out = out; buffer = buffer }
 
 -- the read-out that a call hands back, or the one it got
-abbrev handed_back : Result ReadOut Refusal → ReadOut → ReadOut
-handed_back (Ok r) before = r
-handed_back (Err e) before = before
+abbrev handed_or : Result ReadOut Refusal → ReadOut → ReadOut
+handed_or (Ok r) before = r
+handed_or (Err e) before = before
+
+-- the same, by what the call answered
+abbrev pub handed_back : Answer → ReadOut → ReadOut
+handed_back (Wanting w) before = before
+handed_back (Accepting h) before = handed_or h before
 
 -- the chunk that an accepted call has stored
 abbrev stored_by : Result ReadOut Refusal → List ℕ → List (List ℕ)
@@ -47,7 +52,7 @@ module _ (chunk : ChunkRule) where
   step s (want budget) = s
   step s (accept budget bytes) =
       record {
-        out = handed_back (accepting chunk s.out budget bytes s.buffer) s.out;
+        out = handed_or (accepting chunk s.out budget bytes s.buffer) s.out;
         buffer = buffer_after chunk s.out budget bytes s.buffer;
       }
 
@@ -78,6 +83,10 @@ module _ (chunk : ChunkRule) where
   abbrev pub HoldsChunks : List ℕ → State → List Call → Type 0
   HoldsChunks bank s [] = Unit {0}
   HoldsChunks bank s (c ∷ cs) = HoldsChunk bank s c × HoldsChunks bank (step s c) cs
+
+-- "each call gets the read-out last handed back": by the answer before, or the same once more where that hands back none
+abbrev pub EveryAnswerHandedOn : Type 0
+EveryAnswerHandedOn = (chunk : ChunkRule) (s : State) (c : Call) → handed_back (answer chunk s c) s.out ≡ (step chunk s c).out
 
 abbrev pub sum : List ℕ → ℕ
 sum [] = 0
