@@ -17,8 +17,9 @@ use Rattle.bank.specs.Refusal.{first_of}
 use Rattle.bank.specs.Chunk.{ChunkRule, Bounded}
 use Rattle.bank.specs.declared.read_out.Wanted.{Wanted}
 use Rattle.bank.specs.ReadOut.{advanced, is_done, laid, wanted_len, wanting, accept_checks, accepting, Acceptable}
-use Rattle.bank.specs.Calls.{Call, want, accept, State, state_of, answer, step, after, answers_of, taken, accepted, HoldsChunk, HoldsChunks, bytes_in, joined, EveryListOfCalls, EveryChunkOfBank}
-use Rattle.bank.proofs.Done.{no_bytes, wants_none}
+use Rattle.bank.specs.Calls.{Call, want, accept, State, state_of, answer, step, after, answers_of, taken, accepted, HoldsChunk, HoldsChunks, bytes_in, joined, EveryCallAnsweredExactly, EveryListOfCalls, EveryChunkOfBank}
+use Rattle.bank.specs.declared.call_list.Answer.TheVariants.{Wanting, Accepting}
+use Rattle.bank.proofs.Done.{no_bytes, refuses, says_done, wants, wants_none}
 use Rattle.bank.proofs.Reading as reading
 
 -- ---- lists of chunks
@@ -210,6 +211,16 @@ module _ (chunk : ChunkRule) (rule : Bounded chunk) where
       → slice_get (answers_of chunk s (before ++ c ∷ behind)) (length before) ≡ Some (answer chunk (after chunk s before) c)
   answer_behind s [] c behind = refl
   answer_behind s (b ∷ before) c behind = answer_behind (step chunk s b) before c behind
+
+pub every_call_answered_exactly : EveryCallAnsweredExactly
+every_call_answered_exactly chunk s budget bytes =
+    record {
+      want_refused = λ {e} h. ap Wanting (refuses chunk s.out budget h);
+      says_done = λ v h. ap Wanting (says_done chunk s.out budget v h);
+      wants = λ v h. ap Wanting (wants chunk s.out budget v h);
+      accept_refused = λ {e} h. ap Accepting (sym (reading.refused chunk s.out budget bytes s.buffer h).0);
+      accepts = λ a. ap Accepting ((reading.every_chunk_taken_exactly chunk s.out budget bytes s.buffer).accepted a);
+    }
 
 pub every_list_of_calls : EveryListOfCalls
 every_list_of_calls chunk rule s h calls =

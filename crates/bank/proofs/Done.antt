@@ -1,9 +1,9 @@
 -- What a read-out wants, and what "done" means for any chunk rule that has the bounds.
 -- Assumes nothing.
-use Rattle.std.specs.Prelude.{None, Ok, Option, Some}
+use Rattle.std.specs.Prelude.{Err, None, Ok, Option, Some}
 use mathlib.Core.Path.{◌≡◌, refl, sym, ap, ◌∙◌}
 use mathlib.Core.List.{List, [], ◌∷◌}
-use Prim.Native.Nat.{ℕ, ◌-◌, ◌≤◌}
+use Prim.Native.Nat.{ℕ, ◌-◌, ◌≤◌, ◌<◌}
 use native.Mathlib.Nat.{add-zero}
 use native.Mathlib.Omega.{arith}
 use borrow.Author.Tests.{eq-eqb, ne_eqb, eqb-true}
@@ -14,8 +14,22 @@ use Rattle.bank.specs.declared.read_out.ReadOut.{ReadOut}
 use Rattle.bank.specs.declared.read_out.Wanted.TheVariants.{Done, Chunk}
 use Rattle.bank.specs.Refusal.{first_of}
 use Rattle.bank.specs.Chunk.{ChunkRule, Bounded}
-use Rattle.bank.specs.ReadOut.{is_done, want_checks, wanted_len, wanting, accept_checks, accepting, buffer_after, Valid, EveryChunkWanted, EveryReadOutDoneRight}
+use Rattle.bank.specs.ReadOut.{rule_of, is_done, want_checks, wanted_len, wanting, accept_checks, accepting, buffer_after, Valid, EveryChunkWanted, EveryReadOutDoneRight}
 use Rattle.bank.proofs.Reading.{valid_passes, refused, taken, every_chunk_taken_exactly, nothing_laid}
+
+-- what wanting answers
+module _ (chunk : ChunkRule) (r : ReadOut) (budget : ℕ) where
+  pub refuses : {e : Refusal} → first_of (want_checks r budget) ≡ Some e → wanting chunk r budget ≡ Err e
+  unfolding wanting
+  refuses h = rw h
+
+  pub says_done : Valid r budget → r.next ≡ r.length → wanting chunk r budget ≡ Ok Done
+  unfolding wanting
+  says_done v h = rw (valid_passes r budget v, eq-eqb r.next r.length h)
+
+  pub wants : Valid r budget → r.next < r.length → wanting chunk r budget ≡ Ok (Chunk (wanted_len chunk r budget))
+  unfolding wanting
+  wants v h = rw (valid_passes r budget v, ne_eqb r.next r.length (omega arith))
 
 pub no_bytes : (l : List ℕ) → length l ≤ 0 → l ≡ []
 no_bytes [] h = refl
@@ -54,16 +68,13 @@ module _ (chunk : ChunkRule) (rule : Bounded chunk) (r : ReadOut) (budget : ℕ)
       go (Some x) f = sym (refused chunk r budget [] buffer f).1
 
 pub every_chunk_wanted : EveryChunkWanted
-unfolding wanting
-every_chunk_wanted r budget v h = rw (valid_passes r budget v, ne_eqb r.next r.length (omega arith))
+every_chunk_wanted r budget v h = wants (rule_of r) r budget v h
 
 pub every_read_out_done_right : EveryReadOutDoneRight
-unfolding wanting
 every_read_out_done_right chunk rule r budget v =
-    let sound = valid_passes r budget v in
     record {
-      says_done = λ h. rw (sound, eq-eqb r.next r.length h);
-      only_then = λ e. only_then chunk rule r budget sound e;
+      says_done = λ h. says_done chunk r budget v h;
+      only_then = λ e. only_then chunk rule r budget (valid_passes r budget v) e;
       only_empty = λ bytes buffer {s} h e. only_empty chunk rule r budget bytes buffer h e;
       stays = λ buffer h k. stays chunk rule r budget buffer v h k;
       unchanged = λ buffer. unchanged chunk rule r budget buffer;

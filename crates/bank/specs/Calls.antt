@@ -9,9 +9,9 @@ use Rattle.bank.specs.declared.call_list.Answer.{Answer}
 use Rattle.bank.specs.declared.call_list.Answer.TheVariants.{Wanting, Accepting}
 use Rattle.bank.specs.declared.read_out.ReadOut.{ReadOut}
 use Rattle.bank.specs.declared.read_out.Wanted.{Wanted}
-use Rattle.bank.specs.Refusal.{number_of}
+use Rattle.bank.specs.Refusal.{number_of, first_of}
 use Rattle.bank.specs.Chunk.{ChunkRule, Bounded}
-use Rattle.bank.specs.ReadOut.{laid, wanting, accepting, buffer_after}
+use Rattle.bank.specs.ReadOut.{advanced, laid, want_checks, wanted_len, wanting, accept_checks, accepting, buffer_after, Valid, Acceptable}
 
 -- "The calls are wanting with a budget, and accepting with a budget and a chunk."
 pub data Call : Type 0 where
@@ -83,6 +83,22 @@ module _ (chunk : ChunkRule) where
   abbrev pub HoldsChunks : List ℕ → State → List Call → Type 0
   HoldsChunks bank s [] = Unit {0}
   HoldsChunks bank s (c ∷ cs) = HoldsChunk bank s c × HoldsChunks bank (step s c) cs
+
+-- "each call answers what "The read-out" above gives", by its sentences
+pub record AnsweredExactly (chunk : ChunkRule) (s : State) (budget : ℕ) (bytes : List ℕ) : Type 0 where
+  -- "Wanting: 12, 11, then done."
+  pub want_refused : {e : Refusal} → first_of (want_checks s.out budget) ≡ Some e → answer chunk s (want budget) ≡ Wanting (Err e)
+  -- "It says done exactly when next equals length."
+  pub says_done : Valid s.out budget → s.out.next ≡ s.out.length → answer chunk s (want budget) ≡ Wanting (Ok Wanted.Done)
+  -- "The chunk it wants is `chunk_len(bank, next, length − next, budget)`."
+  pub wants : Valid s.out budget → s.out.next < s.out.length → answer chunk s (want budget) ≡ Wanting (Ok (Wanted.Chunk (wanted_len chunk s.out budget)))
+  -- "Accepting: 12, 11, 13, 14"
+  pub accept_refused : {e : Refusal} → first_of (accept_checks chunk s.out budget bytes s.buffer) ≡ Some e → answer chunk s (accept budget bytes) ≡ Accepting (Err e)
+  -- "Each accepted chunk hands back a new read-out with its next offset advanced"
+  pub accepts : Acceptable chunk s.out budget bytes s.buffer → answer chunk s (accept budget bytes) ≡ Accepting (Ok (advanced s.out (length bytes)))
+
+abbrev pub EveryCallAnsweredExactly : Type 0
+EveryCallAnsweredExactly = (chunk : ChunkRule) (s : State) (budget : ℕ) (bytes : List ℕ) → AnsweredExactly chunk s budget bytes
 
 -- "each call gets the read-out last handed back": by the answer before, or the same once more where that hands back none
 abbrev pub EveryAnswerHandedOn : Type 0
